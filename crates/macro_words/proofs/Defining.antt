@@ -1,13 +1,13 @@
 -- What DEFINE finds, one call and one argument at a time.
 use Rattle.std.proofs.Common.{◌≡◌, Option, None, Some, List, ◌++◌, refl}
-use Rattle.macro_words.specs.Rows.{or_else}
+use Rattle.std.specs.Option.{option_or}
 use Rattle.macro_text.specs.declared.position.Spot.{Spot}
 use Rattle.sheet_store.specs.declared.writes.Write.{Write}
 
 -- a later call goes before an earlier one
-pub or_else_again : (a b c : Option Spot) → or_else (or_else a b) c ≡ or_else a (or_else b c)
-or_else_again (Some x) b c = refl
-or_else_again None b c = refl
+pub either_again : (a b c : Option Spot) → option_or (option_or a b) c ≡ option_or a (option_or b c)
+either_again (Some x) b c = refl
+either_again None b c = refl
 
 -- these writes, and then others
 abbrev pub joined : List Write → Option (List Write) → Option (List Write)

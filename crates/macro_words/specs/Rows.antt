@@ -1,6 +1,7 @@
 -- What each word of a macro does: a row for each (Release 2 manual).
 use Rattle.std.specs.Prelude.{ℕ, zero, ℤ, pos, ◌+◌, ◌&&◌, nat_le, nat_lt, Bool, true, false, List, [], ◌∷◌, codes, length, get_or, min, Option, None, Some, option_map, Result, Ok, Err, if◌then◌else◌, option_and_then}
 use Rattle.std.specs.Int.RustNames.{int_lt}
+use Rattle.std.specs.Option.{option_or}
 use Rattle.std.specs.Str.{str_eq_ignore_ascii_case}
 use Rattle.at_functions.specs.Numbers.{count_of}
 use Rattle.block_writes.specs.Writing.{as_content, written}
@@ -98,14 +99,9 @@ on_range w text f = on_some (range_of w.sight.names text) f
 abbrev pub on_number : Outlook → Place → List ℕ → (ℤ → Row) → Row
 on_number w at text f = on_some (number_of w at text) f
 
--- the whole number that a number is, cut toward zero; none below 0
-abbrev pub count_in : Option ℤ → Option ℕ
-count_in None = None
-count_in (Some n) = count_of n
-
 -- a whole number that isn't below 0, cut toward zero
 abbrev pub on_count : Outlook → Place → List ℕ → (ℕ → Row) → Row
-on_count w at text f = on_some (count_in (number_of w at text)) f
+on_count w at text f = on_some (option_and_then count_of (number_of w at text)) f
 
 -- ---- going and calling
 
@@ -113,26 +109,14 @@ on_count w at text f = on_some (count_in (number_of w at text)) f
 abbrev pub goes : Place → Row
 goes c = moves (move.Go (start_of c))
 
--- BRANCH
-abbrev pub branch_row : Outlook → List (List ℕ) → Row
-branch_row w args = on_place w (arg args 0) goes
-
 -- a text spells a place
 abbrev pub dispatched : Outlook → Option (List ℕ) → Row
 dispatched w None = Err NotText
 dispatched w (Some text) = on_place w text goes
 
--- DISPATCH: the text that a cell has as its value spells the place
-abbrev pub dispatch_row : Outlook → List (List ℕ) → Row
-dispatch_row w args = on_place w (arg args 0) (λ c. dispatched w (text_in (w.sight.values c)))
-
--- calls and loops nest so deep
-abbrev pub most_frames : ℕ
-most_frames = 31
-
--- one call or loop more may be inside the others
+-- one call or loop more may be inside the others, which nest 31 deep
 abbrev pub has_room : Running → Bool
-has_room r = nat_lt (length r.frames) most_frames
+has_room r = nat_lt (length r.frames) 31
 
 -- the word at a place calls the routine at another
 abbrev pub calls_at : Running → Spot → Spot → Row
@@ -141,10 +125,6 @@ calls_at r at s = if has_room r then moves (move.Call at s) else Err TooDeep
 -- the word at a place calls a cell's routine
 abbrev pub calls : Running → Spot → Place → Row
 calls r at c = calls_at r at (start_of c)
-
--- a name calls the routine of its first cell
-abbrev pub call_row : Running → Spot → Option Extent → Row
-call_row r at span = on_some span (λ s. calls r at s.first)
 
 -- a number is past a bound, by the sign of the step
 abbrev pub is_past : ℤ → ℤ → ℤ → Bool
@@ -202,22 +182,14 @@ abbrev pub broken : Option Frame → Row
 broken (Some (frame.Loop l)) = moves (move.Leave l.behind)
 broken _ = bad
 
--- a cell for the message may be given
+-- ONERROR: a cell for the message may be given
 abbrev pub message_row : Outlook → List (List ℕ) → Place → Row
 message_row w args c =
     if nat_lt 1 (length args)
     then on_place w (arg args 1) (λ q. moves (move.Handle (record { place = c; message = Some q })))
     else moves (move.Handle (record { place = c; message = None }))
 
--- ONERROR
-abbrev pub onerror_row : Outlook → List (List ℕ) → Row
-onerror_row w args = on_place w (arg args 0) (message_row w args)
-
 -- ---- writing
-
--- LET
-abbrev pub let_row : Outlook → Spot → List (List ℕ) → Row
-let_row w at args = on_place w (arg args 0) (λ c. puts_value c (let_value w at.cell (arg args 1)) move.Stay)
 
 -- a cell of a range by its column and row, each from 0 on
 abbrev pub cell_in : Extent → ℕ → ℕ → Option Place
@@ -232,10 +204,6 @@ put_row w at args =
     on_range w (arg args 0) (λ s. on_count w at.cell (arg args 1) (λ col. on_count w at.cell (arg args 2) (λ row.
     on_some (cell_in s col row) (λ c. puts_value c (let_value w at.cell (arg args 3)) move.Stay))))
 
--- BLANK
-abbrev pub blank_row : Outlook → List (List ℕ) → Row
-blank_row w args = on_range w (arg args 0) (λ s. Ok (record { change = change.Erase s; after = move.Stay }))
-
 -- a whole number within bounds
 abbrev pub within : ℕ → ℕ → Option ℕ → Option ℕ
 within low high None = None
@@ -244,7 +212,8 @@ within low high (Some n) = if nat_le low n && nat_le n high then Some n else Non
 -- an argument that may be left out: a whole number within bounds, cut toward zero
 abbrev pub given_count : Outlook → Spot → List (List ℕ) → ℕ → ℕ → ℕ → ℕ → Option ℕ
 given_count w at args k low high left_out =
-    if nat_lt k (length args) then within low high (count_in (number_of w at.cell (arg args k))) else Some left_out
+    if nat_lt k (length args) then within low high (option_and_then count_of (number_of w at.cell (arg args k)))
+    else Some left_out
 
 -- CONTENTS: what a cell shows, in its column's width and its format or in those that are given
 abbrev pub contents_row : Outlook → ℕ → Spot → List (List ℕ) → Row
@@ -261,15 +230,10 @@ abbrev pub call_of : Frame → Option Spot
 call_of (frame.Call word back) = Some word
 call_of (frame.Loop l) = None
 
--- the first that is there
-abbrev pub or_else : {A : Type 0} → Option A → Option A → Option A
-or_else (Some x) other = Some x
-or_else None other = other
-
 -- the word of the innermost call
 abbrev pub present_call : List Frame → Option Spot
 present_call [] = None
-present_call (f ∷ fs) = or_else (present_call fs) (call_of f)
+present_call (f ∷ fs) = option_or (present_call fs) (call_of f)
 
 -- a word is a call of a name that there is
 abbrev pub given_in : NameMap → List ℕ → MacroWord → Option (List (List ℕ))
@@ -326,19 +290,11 @@ awaits x = moves (move.Wait x)
 abbrev pub on_text : Outlook → Place → List ℕ → (List ℕ → Row) → Row
 on_text w at text f = on_some (text_in (let_value w at text)) f
 
--- GET
-abbrev pub get_row : Outlook → List (List ℕ) → Row
-get_row w args = on_place w (arg args 0) (λ c. awaits (waiting.OneKey c))
-
 -- GETLABEL and GETNUMBER
 abbrev pub question_row : Outlook → Spot → Wanted → List (List ℕ) → Row
 question_row w at wanted args =
     on_text w at.cell (arg args 0) (λ prompt. on_place w (arg args 1) (λ c.
     awaits (waiting.Line (record { prompt = prompt; line = nothing; target = c; wanted = wanted }))))
-
--- LOOK: no key ever waits to be looked at
-abbrev pub look_row : Outlook → List (List ℕ) → Row
-look_row w args = on_place w (arg args 0) (λ c. puts_value c (value.Str []) move.Stay)
 
 -- a menu of so many items, of which the first is highlighted
 abbrev pub offers : Place → ℕ → Option Spot → Row
@@ -346,10 +302,6 @@ offers c count caller =
     if nat_lt 0 count
     then awaits (waiting.Item (record { first = c; count = count; highlight = 0; caller = caller }))
     else Err NotText
-
--- MENUBRANCH, and by the place of its word MENUCALL
-abbrev pub menu_row : Outlook → Option Spot → List (List ℕ) → Row
-menu_row w caller args = on_place w (arg args 0) (λ c. offers c (items_at w.sight c) caller)
 
 -- a number is below another; what is no number never is
 abbrev pub is_before : Value → ℤ → Bool
@@ -370,10 +322,6 @@ kept_or_read w at args None = number_of w at.cell (arg args 0)
 abbrev pub pauses : Outlook → Running → Spot → ℤ → Row
 pauses w r at n = moves (if is_before (now_value w.day w.second) n then move.Pause at n else move.Go r.position.spot)
 
--- WAIT
-abbrev pub wait_row : Outlook → Running → Spot → List (List ℕ) → Row
-wait_row w r at args = on_some (kept_or_read w at args (number_kept r.waiting)) (pauses w r at)
-
 -- ---- the switches, and the text in the mode's place
 
 -- INDICATE: without an argument the mode is shown again
@@ -393,10 +341,6 @@ switches_by command.BreakOn x = record x { breaks = true }
 switches_by command.BreakOff x = record x { breaks = false }
 switches_by _ x = x
 
--- PANELON, PANELOFF, WINDOWSON, WINDOWSOFF, BREAKON and BREAKOFF
-abbrev pub switch_row : Running → Command → Row
-switch_row r c = moves (move.Switch (switches_by c r.switches))
-
 -- ---- recalculation of a range
 
 -- with a condition and no number the passes are at most so many
@@ -412,22 +356,19 @@ abbrev pub condition_in : Outlook → Spot → List (List ℕ) → Option (Optio
 condition_in w at args =
     if nat_lt 1 (length args) then option_map (λ t. Some t) (formula_in w at.cell (arg args 1)) else Some None
 
--- the formulas of a range are evaluated
-abbrev pub sweeps : Sweep → Row
-sweeps s = Ok (record { change = change.Recalculate s; after = move.Stay })
-
 -- RECALC, and RECALCCOL by columns
 abbrev pub recalc_row : Outlook → Spot → Bool → List (List ℕ) → Row
 recalc_row w at by_columns args =
     on_range w (arg args 0) (λ s. on_some (condition_in w at args) (λ c.
     on_some (given_count w at args 2 1 most_passes (passes_left_out args)) (λ most.
-    sweeps (record { span = s; by_columns = by_columns; until = c; at = at.cell; most = most }))))
+    let sweep : Sweep = record { span = s; by_columns = by_columns; until = c; at = at.cell; most = most } in
+    Ok (record { change = change.Recalculate sweep; after = move.Stay }))))
 
 -- ---- text files
 
 -- the text file that a text names: .TXT is added where no extension stands, and .TXT and .PRN may stand
 abbrev pub text_file : List ℕ → Option (List ℕ)
-text_file text = or_else (file_name Txt text) (file_name Prn text)
+text_file text = option_or (file_name Txt text) (file_name Prn text)
 
 -- R, W or M, in either case, tells what may be done with a file
 abbrev pub access_of : List ℕ → Option Access
@@ -450,32 +391,8 @@ open_row w at args =
 -- READ: so many bytes, cut toward zero, from 0 to 240
 abbrev pub read_row : Outlook → Spot → List (List ℕ) → Row
 read_row w at args =
-    on_some (within 0 MAX_LEN (count_in (number_of w at.cell (arg args 0)))) (λ count.
+    on_some (within 0 MAX_LEN (option_and_then count_of (number_of w at.cell (arg args 0)))) (λ count.
     on_place w (arg args 1) (λ c. asks at (asked.Read count c)))
-
--- READLN
-abbrev pub read_line_row : Outlook → Spot → List (List ℕ) → Row
-read_line_row w at args = on_place w (arg args 0) (λ c. asks at (asked.ReadLine c))
-
--- WRITE
-abbrev pub write_row : Outlook → Spot → List (List ℕ) → Row
-write_row w at args = on_text w at.cell (arg args 0) (λ t. asks at (asked.Write t))
-
--- WRITELN
-abbrev pub write_line_row : Outlook → Spot → List (List ℕ) → Row
-write_line_row w at args = on_text w at.cell (arg args 0) (λ t. asks at (asked.WriteLine t))
-
--- FILESIZE
-abbrev pub size_row : Outlook → Spot → List (List ℕ) → Row
-size_row w at args = on_place w (arg args 0) (λ c. asks at (asked.Size c))
-
--- GETPOS
-abbrev pub position_row : Outlook → Spot → List (List ℕ) → Row
-position_row w at args = on_place w (arg args 0) (λ c. asks at (asked.Position c))
-
--- SETPOS: a place from 0 on, cut toward zero
-abbrev pub set_position_row : Outlook → Spot → List (List ℕ) → Row
-set_position_row w at args = on_count w at.cell (arg args 0) (λ place. asks at (asked.SetPosition place))
 
 -- ---- the table
 
@@ -511,10 +428,12 @@ counts command.GetPos = (1, 1)
 counts command.SetPos = (1, 1)
 counts _ = (0, 0)
 
--- a command with as many arguments as it takes
+-- A command with as many arguments as it takes, which PUT and SETPOS cut toward zero. LOOK puts an empty label,
+-- since no key ever waits to be looked at.
 unfoldable pub command_row : Outlook → ℕ → Running → Spot → Command → List (List ℕ) → Row
-command_row w global r at command.Branch args = branch_row w args
-command_row w global r at command.Dispatch args = dispatch_row w args
+command_row w global r at command.Branch args = on_place w (arg args 0) goes
+command_row w global r at command.Dispatch args =
+    on_place w (arg args 0) (λ c. dispatched w (text_in (w.sight.values c)))
 command_row w global r at command.Define args = define_row w r at args
 command_row w global r at command.Return args = return_row w r
 command_row w global r at command.Restart args = moves move.Forget
@@ -522,33 +441,36 @@ command_row w global r at command.Quit args = moves move.Stop
 command_row w global r at command.If args = if_row w at args
 command_row w global r at command.For args = for_row w r at args
 command_row w global r at command.ForBreak args = broken (innermost r.frames)
-command_row w global r at command.Let args = let_row w at args
+command_row w global r at command.Let args =
+    on_place w (arg args 0) (λ c. puts_value c (let_value w at.cell (arg args 1)) move.Stay)
 command_row w global r at command.Put args = put_row w at args
-command_row w global r at command.Blank args = blank_row w args
+command_row w global r at command.Blank args =
+    on_range w (arg args 0) (λ s. Ok (record { change = change.Erase s; after = move.Stay }))
 command_row w global r at command.Contents args = contents_row w global at args
-command_row w global r at command.OnError args = onerror_row w args
+command_row w global r at command.OnError args = on_place w (arg args 0) (message_row w args)
 command_row w global r at command.Recalc args = recalc_row w at false args
 command_row w global r at command.RecalcCol args = recalc_row w at true args
-command_row w global r at command.Get args = get_row w args
+command_row w global r at command.Get args = on_place w (arg args 0) (λ c. awaits (waiting.OneKey c))
 command_row w global r at command.GetLabel args = question_row w at wanted.Label args
 command_row w global r at command.GetNumber args = question_row w at wanted.Number args
-command_row w global r at command.Look args = look_row w args
-command_row w global r at command.MenuBranch args = menu_row w None args
-command_row w global r at command.MenuCall args = menu_row w (Some at) args
-command_row w global r at command.Wait args = wait_row w r at args
+command_row w global r at command.Look args = on_place w (arg args 0) (λ c. puts_value c (value.Str []) move.Stay)
+command_row w global r at command.MenuBranch args = on_place w (arg args 0) (λ c. offers c (items_at w.sight c) None)
+command_row w global r at command.MenuCall args = on_place w (arg args 0) (λ c. offers c (items_at w.sight c) (Some at))
+command_row w global r at command.Wait args =
+    on_some (kept_or_read w at args (number_kept r.waiting)) (pauses w r at)
 command_row w global r at command.Interact args = awaits waiting.Enter
 command_row w global r at command.Beep args = moves move.Stay
 command_row w global r at command.Indicate args = indicate_row w at args
 command_row w global r at command.Open args = open_row w at args
 command_row w global r at command.Close args = asks at asked.Close
 command_row w global r at command.Read args = read_row w at args
-command_row w global r at command.ReadLn args = read_line_row w at args
-command_row w global r at command.Write args = write_row w at args
-command_row w global r at command.WriteLn args = write_line_row w at args
-command_row w global r at command.FileSize args = size_row w at args
-command_row w global r at command.GetPos args = position_row w at args
-command_row w global r at command.SetPos args = set_position_row w at args
-command_row w global r at c args = switch_row r c
+command_row w global r at command.ReadLn args = on_place w (arg args 0) (λ c. asks at (asked.ReadLine c))
+command_row w global r at command.Write args = on_text w at.cell (arg args 0) (λ t. asks at (asked.Write t))
+command_row w global r at command.WriteLn args = on_text w at.cell (arg args 0) (λ t. asks at (asked.WriteLine t))
+command_row w global r at command.FileSize args = on_place w (arg args 0) (λ c. asks at (asked.Size c))
+command_row w global r at command.GetPos args = on_place w (arg args 0) (λ c. asks at (asked.Position c))
+command_row w global r at command.SetPos args = on_count w at.cell (arg args 0) (λ n. asks at (asked.SetPosition n))
+command_row w global r at c args = moves (move.Switch (switches_by c r.switches))
 
 -- within the fewest and the most
 abbrev pub is_taken : ℕ × ℕ → ℕ → Bool
@@ -561,16 +483,13 @@ counted_row w global r at c args = if is_taken (counts c) (length args) then com
 -- a word of a text that stands at a place
 abbrev pub word_row : Outlook → ℕ → Running → Spot → List ℕ → MacroWord → Row
 word_row w global r at text (word.Command c args) = counted_row w global r at c (arguments_of false text args)
-word_row w global r at text (word.Call name args) = call_row r at (named_span w.sight.names (part text name))
+word_row w global r at text (word.Call name args) =
+    on_some (named_span w.sight.names (part text name)) (λ s. calls r at s.first)
 word_row w global r at text (word.PlaceCall c) = on_place w (part text c) (calls r at)
 word_row w global r at text _ = bad
-
--- the word at a place of a text
-abbrev pub text_row : Outlook → ℕ → Running → Spot → Option (List ℕ) → Row
-text_row w global r at None = bad
-text_row w global r at (Some text) = word_row w global r at text (unit_at text at.offset).0
 
 -- What the word at a place does, as its text now stands, where the sheet's format is this one. A place without a
 -- command or a call is a fault.
 unfoldable pub row : Outlook → ℕ → Running → Spot → Row
-row w global r at = text_row w global r at (macro_text w.sight at.cell)
+row w global r at =
+    on_some (macro_text w.sight at.cell) (λ text. word_row w global r at text (unit_at text at.offset).0)

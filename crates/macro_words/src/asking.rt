@@ -1,9 +1,13 @@
 // Words that wait, and the text in the mode's place.
-ghost use Rattle.std.specs.Prelude.{◌≡◌, IfOk};
+ghost use Rattle.std.specs.Prelude.{◌≡◌, [], IfOk};
 ghost use Rattle.macro_words.specs.Sources.{outlook_from};
 ghost use Rattle.lics_text.specs.Bytes.{IsText};
+ghost use Rattle.formula_tree.specs.declared.value.Value.TheVariants as value;
+ghost use Rattle.macro_words.specs.Items.{items_at};
 ghost use Rattle.macro_words.specs.Rows as spec;
 ghost use Rattle.macro_words.specs.Values as values;
+ghost use Rattle.macro_words.specs.declared.running.Move.TheVariants as move;
+ghost use Rattle.macro_words.specs.declared.waiting.Waiting.TheVariants as waiting;
 ghost use Rattle.value_functions.specs.Values.{text_in};
 
 use crate::items::items_at;
@@ -58,7 +62,8 @@ pub fn text_given<K: Look>(
 
 /// GET: the macro waits for a key, which is put into a cell as a macro spells it.
 pub fn get_row<K: Look>(from: &Source<'_, K>, args: &TextList) -> Row
-    ensures { result ≡ spec.get_row (outlook_from K.Look from.now) args.now }
+    ensures { result ≡ spec.on_place (outlook_from K.Look from.now) (spec.arg args.now 0)
+        (λ c. spec.awaits (waiting.OneKey c)) }
 {
     match place_of(from.look.names(), args.get(0)) {
         Some(cell) => awaits(Waiting::OneKey(cell)),
@@ -99,7 +104,8 @@ pub fn question_row<K: Look>(
 /// LOOK: an empty label is put into a cell, since no key waits before it is asked for (this project's choice).
 pub fn look_row<K: Look>(from: &Source<'_, K>, args: &TextList) -> Result<Row, Memory>
     ensures { let outlook = outlook_from K.Look from.now in
-        IfOk result (λ r. r ≡ spec.look_row outlook args.now) }
+        IfOk result (λ r. r ≡ spec.on_place outlook (spec.arg args.now 0)
+        (λ c. spec.puts_value c (value.Str []) move.Stay)) }
 {
     match place_of(from.look.names(), args.get(0)) {
         Some(cell) => puts_text(from.alloc, cell, b"", Move::Stay),
@@ -125,7 +131,9 @@ fn offers(first: Cell, count: usize, caller: Option<Spot>) -> Row
 /// MENUBRANCH: the macro waits for the choice of an item, and goes on there; with the place of its word it is MENUCALL,
 /// which calls what is chosen. A fault comes where no label stands in the first cell.
 pub fn menu_row<K: Look>(from: &Source<'_, K>, caller: Option<Spot>, args: &TextList) -> Row
-    ensures { result ≡ spec.menu_row (outlook_from K.Look from.now) caller args.now }
+    ensures { let outlook = outlook_from K.Look from.now in
+        result ≡ spec.on_place outlook (spec.arg args.now 0)
+        (λ c. spec.offers c (items_at outlook.sight c) caller) }
 {
     match place_of(from.look.names(), args.get(0)) {
         Some(first) => offers(first, items_at(from.look, first), caller),
@@ -181,7 +189,9 @@ pub fn wait_row<K: Look>(
     args: &TextList,
 ) -> Result<Row, Memory>
     ensures { let outlook = outlook_from K.Look from.now in
-        IfOk result (λ r. r ≡ spec.wait_row outlook running.now at.now args.now) }
+        let kept = spec.number_kept running.now.waiting in
+        IfOk result (λ r. r ≡ spec.on_some (spec.kept_or_read outlook at.now args.now kept)
+        (spec.pauses outlook running.now at.now)) }
 {
     let kept = number_kept(&running.waiting);
     let Some(number) = kept_or_read(from, at, args, kept)? else {
@@ -240,7 +250,7 @@ fn switches_by(command: Command, switches: Switches) -> Switches
 /// PANELON, PANELOFF, WINDOWSON, WINDOWSOFF, BREAKON and BREAKOFF: what is switched is on or off from then on, as
 /// long as the macro runs.
 pub fn switch_row(running: &Running, command: Command) -> Row
-    ensures { result ≡ spec.switch_row running.now command }
+    ensures { result ≡ spec.moves (move.Switch (spec.switches_by command running.now.switches)) }
 {
     moves(Move::Switch(switches_by(command, running.switches)))
 }

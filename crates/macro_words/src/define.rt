@@ -22,7 +22,7 @@ use sheet_store::{Write, Writes};
 use std::alloc::Global;
 
 // The word of the innermost call.
-#[tactic(auto, using(crate::proofs::Defining::or_else_again))]
+#[tactic(auto, using(crate::proofs::Defining::either_again))]
 fn present_call(mut frames: &[Frame]) -> Option<Spot>
     ensures { result ≡ spec.present_call frames.entry.now }
 {

@@ -2,6 +2,7 @@
 ghost use Rattle.std.specs.Prelude.{◌≡◌, IfOk};
 ghost use Rattle.macro_words.specs.Sources.{outlook_from};
 ghost use Rattle.macro_words.specs.Rows as spec;
+ghost use Rattle.macro_words.specs.declared.files.FileWord.TheVariants as asked;
 
 use crate::asking::text_given;
 use crate::rows::{bad, below, moves};
@@ -82,7 +83,8 @@ pub fn read_row<K: Look>(from: &Source<'_, K>, at: &Spot, args: &TextList) -> Re
 
 /// READLN.
 pub fn read_line_row<K: Look>(from: &Source<'_, K>, at: &Spot, args: &TextList) -> Row
-    ensures { result ≡ spec.read_line_row (outlook_from K.Look from.now) at.now args.now }
+    ensures { result ≡ spec.on_place (outlook_from K.Look from.now) (spec.arg args.now 0)
+        (λ c. spec.asks at.now (asked.ReadLine c)) }
 {
     match place_of(from.look.names(), args.get(0)) {
         Some(cell) => asks(at, FileWord::ReadLine(cell)),
@@ -93,7 +95,8 @@ pub fn read_line_row<K: Look>(from: &Source<'_, K>, at: &Spot, args: &TextList) 
 /// WRITE.
 pub fn write_row<K: Look>(from: &Source<'_, K>, at: &Spot, args: &TextList) -> Result<Row, Memory>
     ensures { let outlook = outlook_from K.Look from.now in
-        IfOk result (λ r. r ≡ spec.write_row outlook at.now args.now) }
+        IfOk result (λ r. r ≡ spec.on_text outlook at.now.cell (spec.arg args.now 0)
+        (λ t. spec.asks at.now (asked.Write t))) }
 {
     match text_given(from, at.cell, args.get(0))? {
         Some(text) => Ok(asks(at, FileWord::Write(text))),
@@ -108,7 +111,8 @@ pub fn write_line_row<K: Look>(
     args: &TextList,
 ) -> Result<Row, Memory>
     ensures { let outlook = outlook_from K.Look from.now in
-        IfOk result (λ r. r ≡ spec.write_line_row outlook at.now args.now) }
+        IfOk result (λ r. r ≡ spec.on_text outlook at.now.cell (spec.arg args.now 0)
+        (λ t. spec.asks at.now (asked.WriteLine t))) }
 {
     match text_given(from, at.cell, args.get(0))? {
         Some(text) => Ok(asks(at, FileWord::WriteLine(text))),
@@ -118,7 +122,8 @@ pub fn write_line_row<K: Look>(
 
 /// FILESIZE.
 pub fn size_row<K: Look>(from: &Source<'_, K>, at: &Spot, args: &TextList) -> Row
-    ensures { result ≡ spec.size_row (outlook_from K.Look from.now) at.now args.now }
+    ensures { result ≡ spec.on_place (outlook_from K.Look from.now) (spec.arg args.now 0)
+        (λ c. spec.asks at.now (asked.Size c)) }
 {
     match place_of(from.look.names(), args.get(0)) {
         Some(cell) => asks(at, FileWord::Size(cell)),
@@ -128,7 +133,8 @@ pub fn size_row<K: Look>(from: &Source<'_, K>, at: &Spot, args: &TextList) -> Ro
 
 /// GETPOS.
 pub fn position_row<K: Look>(from: &Source<'_, K>, at: &Spot, args: &TextList) -> Row
-    ensures { result ≡ spec.position_row (outlook_from K.Look from.now) at.now args.now }
+    ensures { result ≡ spec.on_place (outlook_from K.Look from.now) (spec.arg args.now 0)
+        (λ c. spec.asks at.now (asked.Position c)) }
 {
     match place_of(from.look.names(), args.get(0)) {
         Some(cell) => asks(at, FileWord::Position(cell)),
@@ -143,7 +149,8 @@ pub fn set_position_row<K: Look>(
     args: &TextList,
 ) -> Result<Row, Memory>
     ensures { let outlook = outlook_from K.Look from.now in
-        IfOk result (λ r. r ≡ spec.set_position_row outlook at.now args.now) }
+        IfOk result (λ r. r ≡ spec.on_count outlook at.now.cell (spec.arg args.now 0)
+        (λ n. spec.asks at.now (asked.SetPosition n))) }
 {
     match count_given(from, at.cell, args.get(0))? {
         Some(place) => Ok(asks(at, FileWord::SetPosition(place))),

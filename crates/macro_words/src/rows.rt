@@ -3,6 +3,7 @@ ghost use Rattle.std.specs.Prelude.{◌≡◌, IfOk};
 ghost use Rattle.macro_words.specs.Sources.{outlook_from};
 ghost use Rattle.macro_words.specs.Moves as moving;
 ghost use Rattle.macro_words.specs.Rows as spec;
+ghost use Rattle.value_functions.specs.Values.{text_in};
 
 use crate::going::start_of;
 use crate::{Change, Deed, Handler, Move, Row, Running, Source};
@@ -38,7 +39,7 @@ fn goes(cell: Cell) -> Row
 
 /// BRANCH.
 pub fn branch_row<K: Look>(from: &Source<'_, K>, args: &TextList) -> Row
-    ensures { result ≡ spec.branch_row (outlook_from K.Look from.now) args.now }
+    ensures { result ≡ spec.on_place (outlook_from K.Look from.now) (spec.arg args.now 0) spec.goes }
 {
     match place_of(from.look.names(), args.get(0)) {
         Some(cell) => goes(cell),
@@ -48,7 +49,9 @@ pub fn branch_row<K: Look>(from: &Source<'_, K>, args: &TextList) -> Row
 
 /// DISPATCH.
 pub fn dispatch_row<K: Look>(from: &Source<'_, K>, args: &TextList) -> Row
-    ensures { result ≡ spec.dispatch_row (outlook_from K.Look from.now) args.now }
+    ensures { let outlook = outlook_from K.Look from.now in
+        result ≡ spec.on_place outlook (spec.arg args.now 0)
+        (λ c. spec.dispatched outlook (text_in (outlook.sight.values c))) }
 {
     let Some(cell) = place_of(from.look.names(), args.get(0)) else {
         return bad();
@@ -92,7 +95,7 @@ pub fn calls(running: &Running, at: &Spot, cell: Cell) -> Row
 
 /// A call of a name.
 pub fn call_row(running: &Running, at: &Spot, span: Option<Span>) -> Row
-    ensures { result ≡ spec.call_row running.now at.now span }
+    ensures { result ≡ spec.on_some span (λ s. spec.calls running.now at.now s.first) }
 {
     match span {
         Some(span) => calls(running, at, span.first),
@@ -160,7 +163,8 @@ pub fn if_row<K: Look>(
 
 /// ONERROR.
 pub fn onerror_row<K: Look>(from: &Source<'_, K>, args: &TextList) -> Row
-    ensures { result ≡ spec.onerror_row (outlook_from K.Look from.now) args.now }
+    ensures { let outlook = outlook_from K.Look from.now in
+        result ≡ spec.on_place outlook (spec.arg args.now 0) (spec.message_row outlook args.now) }
 {
     let Some(place) = place_of(from.look.names(), args.get(0)) else {
         return bad();

@@ -1,8 +1,12 @@
 // Words that write, erase or recalculate cells.
-ghost use Rattle.std.specs.Prelude.{◌≡◌, IfOk};
+ghost use Rattle.std.specs.Prelude.{◌≡◌, option_and_then, IfOk, Ok};
 ghost use Rattle.macro_words.specs.Sources.{outlook_from};
 ghost use Rattle.macro_words.specs.Rows as spec;
+ghost use Rattle.macro_words.specs.Values as values;
+ghost use Rattle.macro_words.specs.declared.running.Change.TheVariants as change;
+ghost use Rattle.macro_words.specs.declared.running.Move.TheVariants as move;
 ghost use Rattle.macro_text.specs.Arguments as arguments;
+ghost use Rattle.at_functions.specs.Numbers.{count_of};
 
 use crate::rows::bad;
 use crate::shown::shown_cell;
@@ -25,7 +29,8 @@ pub fn let_row<K: Look>(
     given: &ReadArguments,
 ) -> Result<Row, Memory>
     ensures { let outlook = outlook_from K.Look from.now in
-        IfOk result (λ r. r ≡ spec.let_row outlook at.now given.now) }
+        IfOk result (λ r. r ≡ spec.on_place outlook (spec.arg given.now 0)
+        (λ c. spec.puts_value c (values.let_value outlook at.now.cell (spec.arg given.now 1)) move.Stay)) }
 {
     let args = given.list();
     let Some(cell) = place_of(from.look.names(), args.get(0)) else {
@@ -38,7 +43,7 @@ pub fn let_row<K: Look>(
 
 // The whole number that a number tells, cut toward zero; none below 0.
 fn count_in(number: Option<Fixed>) -> Option<u32>
-    ensures { result ≡ spec.count_in number }
+    ensures { result ≡ option_and_then count_of number }
 {
     match number {
         Some(number) => count_of(number),
@@ -53,7 +58,7 @@ pub fn count_given<K: Look>(
     text: &[u8],
 ) -> Result<Option<u32>, Memory>
     ensures { let outlook = outlook_from K.Look from.now in
-        IfOk result (λ n. n ≡ spec.count_in (arguments.number_of outlook at text.now)) }
+        IfOk result (λ n. n ≡ option_and_then count_of (arguments.number_of outlook at text.now)) }
 {
     let number = number_of(from.alloc, text, at, from.look, from.scene)?;
     Ok(count_in(number))
@@ -102,7 +107,8 @@ pub fn put_row<K: Look>(
 
 /// BLANK.
 pub fn blank_row<K: Look>(from: &Source<'_, K>, args: &TextList) -> Row
-    ensures { result ≡ spec.blank_row (outlook_from K.Look from.now) args.now }
+    ensures { result ≡ spec.on_range (outlook_from K.Look from.now) (spec.arg args.now 0)
+        (λ s. Ok (record { change = change.Erase s; after = move.Stay })) }
 {
     match range_of(from.look.names(), args.get(0)) {
         Some(span) => Ok(Deed {
