@@ -13,8 +13,8 @@ use Rattle.sheet_store.specs.State.{CellState}
 use Rattle.work_sheet.specs.Seen.{Sheet}
 use Rattle.screen_layout.specs.inner.Alike.{AreAlike}
 use Rattle.shown_cells.specs.Cells.{state_text}
-use Rattle.screen_layout.specs.Cells.{cell_text}
-use Rattle.screen_layout.specs.Columns.{beside, column_text, columns_from, columns_line, margin, shown_columns}
+use Rattle.screen_layout.specs.Columns.{beside, cell_text, column_text, columns_from, columns_line, margin}
+use Rattle.screen_layout.specs.Columns.{shown_columns}
 use Rattle.shown_cells.specs.Cells.{padded}
 use Rattle.screen_layout.specs.Lines.{shown_line}
 use Rattle.screen_layout.specs.Screen.{line_text, row_line, screen_line}

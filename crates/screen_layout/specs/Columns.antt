@@ -1,14 +1,14 @@
 -- The shown columns, and the lines that show them.
 use Rattle.std.specs.Prelude.{ℕ, zero, suc, ◌+◌, ◌-◌, ◌/◌, Bool, true, false, ◌||◌, nat_le, List, [], ◌∷◌, ◌++◌, length, take, drop, replicate, Option, Some, None, codes, unwrap_or, if◌then◌else◌}
+use Rattle.std.specs.FinMap as map
 use Rattle.lics_text.specs.Ascii as ascii
 use Rattle.grid_address.specs.Limits.{COLUMNS}
 use Rattle.grid_address.specs.Address.{column_name, decimal}
+use Rattle.grid_address.specs.Place.{Place}
 use Rattle.sheet_store.specs.Grid.{is_hidden}
-use Rattle.screen_layout.specs.Cells.{cell_text}
-use Rattle.shown_cells.specs.Cells.{padded}
+use Rattle.shown_cells.specs.Cells.{padded, state_text}
 use Rattle.work_sheet.specs.Seen.{Sheet}
-use Rattle.screen_layout.specs.Sheets.{width_in}
-use Rattle.screen_layout.specs.Places.{ROOM}
+use Rattle.screen_layout.specs.Sheets.{width_in, ROOM}
 use Rattle.screen_layout.specs.declared.shown_columns.Column.{Column}
 
 -- Of so many columns from one on, those that are shown in the room: hidden ones are passed over, and the others stand
@@ -28,6 +28,10 @@ shown_columns s first = columns_from s true (COLUMNS - first) first ROOM
 -- how many they are
 abbrev pub columns_shown : Sheet → ℕ → ℕ
 columns_shown s first = length (shown_columns s first)
+
+-- what a cell shows from its left edge on, which may be longer than its width; a blank cell shows nothing of its own
+abbrev pub cell_text : Sheet → Place → ℕ → Option (List ℕ)
+cell_text s c width = state_text s.names s.settings.format c (map.get s.grid.cells c) width
 
 -- a column's letters, with half of the free bytes, rounded down, on their left
 abbrev pub head_text : ℕ → ℕ → List ℕ

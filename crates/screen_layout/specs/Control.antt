@@ -8,7 +8,6 @@ use Rattle.grid_address.specs.Address.{address_of, decimal}
 use Rattle.recalculation.specs.Context.{format_of}
 use Rattle.sheet_store.specs.Grid.{width_of}
 use Rattle.screen_layout.specs.Lines.{filled}
-use Rattle.screen_layout.specs.Places.{CONTENT_END, LAST_COLUMN, MODE_COLUMN}
 use Rattle.work_sheet.specs.Seen.{Sheet}
 use Rattle.control_panel.specs.declared.panel.Mode.{Mode}
 use Rattle.control_panel.specs.declared.panel.Mode.TheVariants.{Ready, Label, Value, Edit, Point, Menu, Error}
@@ -61,11 +60,11 @@ pointer_text s = front_text s ++ typed s.names s.grid s.settings.pointer
 
 -- it is cut after column 71, and the mode stands from column 73 on
 abbrev pub pointer_line : Sheet → Panel → List ℕ
-pointer_line s p = filled MODE_COLUMN (take CONTENT_END (pointer_text s)) ++ mode_text p.indicate p.mode
+pointer_line s p = filled 73 (take 72 (pointer_text s)) ++ mode_text p.indicate p.mode
 
 -- the line that is typed behind its prompt, from the byte that lets the cursor stand at column 79 at most
 abbrev pub typed_line : Panel → List ℕ
-typed_line p = drop (length (with_space p.prompt) + p.cursor - LAST_COLUMN) (with_space p.prompt ++ p.typed)
+typed_line p = drop (length (with_space p.prompt) + p.cursor - 79) (with_space p.prompt ++ p.typed)
 
 -- a menu stands in the panel's second and third line
 abbrev pub is_menu : Mode → Bool

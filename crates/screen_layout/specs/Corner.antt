@@ -3,8 +3,7 @@ use Rattle.std.specs.Prelude.{ℕ, zero, suc, ◌+◌, ◌-◌, max, nat_le, nat
 use Rattle.grid_address.specs.Place.{Place}
 use Rattle.sheet_store.specs.Grid.{is_hidden}
 use Rattle.work_sheet.specs.Seen.{Sheet}
-use Rattle.screen_layout.specs.Sheets.{width_in}
-use Rattle.screen_layout.specs.Places.{ROOM}
+use Rattle.screen_layout.specs.Sheets.{width_in, ROOM}
 
 -- the first of 20 shown rows moves as little as lets the pointer's be one of them
 abbrev pub first_row : ℕ → ℕ → ℕ

@@ -3,7 +3,6 @@ use Rattle.std.specs.Prelude.{ℕ, ◌*◌, ◌/◌, ◌%◌, pos, Bool, true, f
 use Rattle.cell_format.specs.Numbers.{shown_number, two_digits}
 use Rattle.grid_address.specs.Formats.{date_format}
 use Rattle.screen_layout.specs.Lines.{filled}
-use Rattle.screen_layout.specs.Places.{CALC_COLUMN, CIRC_COLUMN, CMD_COLUMN, END_COLUMN}
 use Rattle.work_sheet.specs.Seen.{Sheet}
 use Rattle.control_panel.specs.declared.panel.Mode.{Mode}
 use Rattle.control_panel.specs.declared.panel.Mode.TheVariants.{Error}
@@ -30,11 +29,11 @@ marked false column word line = line
 abbrev pub wants_recalculation : Sheet → Bool
 wants_recalculation s = s.stale && not s.settings.automatic
 
--- CALC from column 50 on, CIRC from 56, END from 62 and CMD from 67
+-- CALC from column 50 on, before which the moment or the message ends, CIRC from 56, END from 62 and CMD from 67
 abbrev pub foot_line : Sheet → Panel → Option ℕ → ℕ → List ℕ
 foot_line s p day second =
-    marked p.running CMD_COLUMN (codes "CMD")
-    (marked p.end END_COLUMN (codes "END")
-    (marked s.circular CIRC_COLUMN (codes "CIRC")
-    (marked (wants_recalculation s) CALC_COLUMN (codes "CALC")
-    (take CALC_COLUMN (first_part p.mode p.message day second)))))
+    marked p.running 67 (codes "CMD")
+    (marked p.end 62 (codes "END")
+    (marked s.circular 56 (codes "CIRC")
+    (marked (wants_recalculation s) 50 (codes "CALC")
+    (take 50 (first_part p.mode p.message day second)))))

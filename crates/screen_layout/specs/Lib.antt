@@ -1,10 +1,8 @@
-pub mod Cells
 pub mod Columns
 pub mod Control
 pub mod Corner
 pub mod Foot
 pub mod Lines
-pub mod Places
 pub mod Screen
 pub mod Sheets
 pub mod Views

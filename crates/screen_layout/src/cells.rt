@@ -1,7 +1,7 @@
 // What a cell shows.
 ghost use Rattle.std.specs.Prelude.{◌≡◌, ◌≤◌, ◌++◌, ◌+◌, [], length, take, drop, unwrap_or};
 ghost use Rattle.cell_format.specs.Numbers.{shown_number};
-ghost use Rattle.screen_layout.specs.Cells.{cell_text};
+ghost use Rattle.screen_layout.specs.Columns.{cell_text};
 ghost use Rattle.shown_cells.specs.Cells.{padded};
 ghost use Rattle.shown_cells.specs.Parts.{fitting_text, shown_text};
 ghost use Rattle.work_sheet.specs.Seen.{of_worksheet};

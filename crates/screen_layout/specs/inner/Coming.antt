@@ -3,7 +3,7 @@ use Rattle.std.specs.Prelude.{◌≡◌, ℕ, ◌-◌, nat_eq, List, [], ◌∷�
 use Rattle.grid_address.specs.Limits.{COLUMNS}
 use Rattle.work_sheet.specs.Seen.{Sheet}
 use Rattle.screen_layout.specs.Columns.{columns_from}
-use Rattle.screen_layout.specs.Places.{ROOM}
+use Rattle.screen_layout.specs.Sheets.{ROOM}
 use Rattle.screen_layout.specs.declared.shown_columns.Column.{Column}
 use Rattle.screen_layout.specs.declared.shown_columns.Coming.{Coming}
 
