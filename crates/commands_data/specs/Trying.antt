@@ -1,13 +1,13 @@
 -- What a table does to a sheet: inputs are tried, old contents are given back, and answers are written.
-use Rattle.std.specs.Prelude.{List, [], ◌∷◌, map}
+use Rattle.std.specs.Prelude.{List, [], ◌∷◌, map, unwrap_or}
 use Rattle.std.specs.FinMap as cells
 use Rattle.block_writes.specs.Writing.{as_content, content_or_blank, written}
-use Rattle.data_blocks.specs.Benches.{value_or_blank}
 use Rattle.data_blocks.specs.Tables.{after_scenarios, scenarios_one, scenarios_two, scenarios_written, Trial, Scenario}
 use Rattle.formula_eval.specs.Mean.{mean}
 use Rattle.formula_parts.specs.declared.look.Scene.{Scene}
 use Rattle.formula_tree.specs.declared.value.Content.{Content}
 use Rattle.formula_tree.specs.declared.value.Value.{Value}
+use Rattle.formula_tree.specs.declared.value.Value.TheVariants as value
 use Rattle.grid_address.specs.Place.{Extent, Place}
 use Rattle.recalculation.specs.Context.{content_of}
 use Rattle.sheet_store.specs.Grid.{Grid}
@@ -23,7 +23,7 @@ content_at g p = content_or_blank (content_of (cells.get g.cells p))
 
 -- the value of a cell; one of which nothing is held is blank
 abbrev pub value_in : Sheet → Place → Value
-value_in s p = value_or_blank (value_told s.grid p)
+value_in s p = unwrap_or (value_told s.grid p) value.Blank
 
 -- what some cells hold, as writes
 abbrev pub contents_of : List Place → Sheet → List Write

@@ -1,5 +1,5 @@
 -- A bench: a sheet on which inputs are tried, and whose cells get their old contents back.
-use Rattle.std.specs.Prelude.{◌≡◌, Bool, true, false, Option, None, Some, List, [], ◌∷◌, ◌++◌, map, Result, Ok, Err, if◌then◌else◌}
+use Rattle.std.specs.Prelude.{◌≡◌, Bool, true, false, Option, Some, unwrap_or, List, [], ◌∷◌, ◌++◌, map, Result, Ok, Err, if◌then◌else◌}
 use Rattle.std.specs.List.{list_any}
 use Rattle.grid_address.specs.Place.{same_place, Extent, Place}
 use Rattle.formula_tree.specs.declared.value.Content.{Content}
@@ -21,14 +21,9 @@ pub record OnBench : Type 0 where
   pub inputs : List Place
   pub kept : Place → Content
 
--- a cell of which nothing is held is blank
-abbrev pub value_or_blank : Option Value → Value
-value_or_blank None = value.Blank
-value_or_blank (Some v) = v
-
--- the values of its cells
+-- the values of its cells; one of which nothing is held is blank
 abbrev pub values_on : OnBench → Place → Value
-values_on b p = value_or_blank (b.answers p)
+values_on b p = unwrap_or (b.answers p) value.Blank
 
 -- whether a cell takes inputs
 abbrev pub takes : OnBench → Place → Bool

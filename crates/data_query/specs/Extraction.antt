@@ -9,7 +9,7 @@ use Rattle.block_writes.specs.Writing.{at, columns_of, numbers_from, value_copie
 use Rattle.sheet_store.specs.declared.writes.Write.{Write}
 use Rattle.record_match.specs.Fields.{field_named, is_label_at, is_no_field}
 use Rattle.grid_address.specs.Lines.{last_row}
-use Rattle.data_query.specs.Selection.{asked, chosen, rows_erased}
+use Rattle.data_query.specs.Selection.{asked, chosen, rows_erased, unless_absent}
 use Rattle.data_query.specs.declared.fault.QueryFault.{QueryFault}
 use Rattle.data_query.specs.declared.fault.QueryFault.TheVariants as fault
 use Rattle.data_query.specs.declared.output.OutputField.{OutputField}
@@ -33,13 +33,9 @@ is_unknown sight input output col =
 abbrev pub unknown_label : Sight → Extent → Extent → Option ℕ
 unknown_label sight input output = find (is_unknown sight input output) (columns_of output)
 
--- an output of one row reaches to the end of the sheet
-abbrev pub last_of_output : Extent → ℕ
-last_of_output output = if nat_eq output.first.row output.last.row then last_row else output.last.row
-
--- how many records an output has room for below its headers
+-- how many records an output has room for below its headers; one of one row reaches to the end of the sheet
 abbrev pub room_of : Extent → ℕ
-room_of output = last_of_output output - output.first.row
+room_of output = (if nat_eq output.first.row output.last.row then last_row else output.last.row) - output.first.row
 
 -- the rows below the headers of an output
 abbrev pub rows_of_output : Extent → List ℕ
@@ -76,13 +72,8 @@ output_written sight output fields rows =
     rows_erased (columns_of output) (rows_of_output output) ++ records_written sight fields rows (rows_of_output output)
 
 -- an answer, unless a label of the output names no field
-abbrev pub unless_unknown : {X : Type 0} → Extent → Option ℕ → X → Result X QueryFault
-unless_unknown output (Some col) x = Err (fault.FieldAbsent (at output.first.row col))
-unless_unknown output None x = Ok x
-
--- the fault of an output's headers, or an answer
 abbrev pub labelled : {X : Type 0} → Sight → Extent → Extent → X → Result X QueryFault
-labelled sight input output x = unless_unknown output (unknown_label sight input output) x
+labelled sight input output x = unless_absent output (unknown_label sight input output) x
 
 -- what these records write, unless the output has too few rows for so many
 abbrev pub rows_extracted : Sight → Extent → List OutputField → List ℕ → Result (List Write) QueryFault

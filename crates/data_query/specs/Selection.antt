@@ -14,15 +14,15 @@ use Rattle.data_query.specs.declared.fault.QueryFault.TheVariants as fault
 abbrev pub chosen : Outlook → Extent → Extent → List ℕ
 chosen w input criterion = filter (record_matches w input criterion) (rows_below input)
 
--- an answer, unless the input names no fields, or a header of the criterion names none of them
-abbrev pub unless_missing : {X : Type 0} → Extent → Option ℕ → X → Result X QueryFault
-unless_missing criterion (Some col) x = Err (fault.FieldAbsent (at criterion.first.row col))
-unless_missing criterion None x = Ok x
+-- an answer, unless the header in a column of a range names no field
+abbrev pub unless_absent : {X : Type 0} → Extent → Option ℕ → X → Result X QueryFault
+unless_absent range (Some col) x = Err (fault.FieldAbsent (at range.first.row col))
+unless_absent range None x = Ok x
 
--- the faults of an input and a criterion, or an answer
+-- an answer, unless the input names no fields, or a header of the criterion names none of them
 abbrev pub asked : {X : Type 0} → Sight → Extent → Extent → X → Result X QueryFault
 asked sight input criterion x =
-    if has_fields sight input then unless_missing criterion (missing sight input criterion) x else Err fault.NoFieldRow
+    if has_fields sight input then unless_absent criterion (missing sight input criterion) x else Err fault.NoFieldRow
 
 -- the first cells of the chosen records
 abbrev pub selection : Outlook → Extent → Extent → Result (List Place) QueryFault

@@ -1,7 +1,8 @@
 -- The report: each band's pages after those of the band before.
 use Rattle.std.specs.Prelude.{ℕ, zero, suc, ◌+◌, ◌-◌, ◌/◌, ◌≡◌, ⊤, nat_le, nat_lt, ◌||◌, Bool, List, [], ◌∷◌, ◌++◌, map, take, drop, length, unwrap_or, Option, Result, Ok, Err, if◌then◌else◌}
 use Rattle.cell_format.specs.Labels.{masked}
-use Rattle.grid_address.specs.Place.{height_of, Extent, Place}
+use Rattle.grid_address.specs.Lines.{at}
+use Rattle.grid_address.specs.Place.{height_of, Extent}
 use Rattle.sheet_store.specs.declared.writes.SavedSheet.{SavedSheet}
 use Rattle.print_report.specs.declared.settings.PrintFault.{PrintFault}
 use Rattle.print_report.specs.declared.settings.PrintFault.TheVariants.{PageTooSmall, TooLong, Memory}
@@ -31,17 +32,13 @@ page_width set = set.right - set.left
 abbrev pub page_rows : PrintSettings → ℕ
 page_rows set = set.length - set.top - set.bottom - 6
 
--- the cell of a row and a column
-abbrev pub place : ℕ → ℕ → Place
-place row col = record { row = row; col = col }
-
 -- The columns of a band beside each other, each cut or filled to its width. What is left of a text runs on over blank
 -- cells to the right.
 abbrev pub beside : SavedSheet → ℕ → List ℕ → List ℕ → List ℕ
 beside s row [] over = []
 beside s row (c ∷ cs) over =
-    padded (width_in s c) (unwrap_or (cell_text s (place row c) (width_in s c)) over)
-    ++ beside s row cs (drop (width_in s c) (unwrap_or (cell_text s (place row c) (width_in s c)) over))
+    padded (width_in s c) (unwrap_or (cell_text s (at row c) (width_in s c)) over)
+    ++ beside s row cs (drop (width_in s c) (unwrap_or (cell_text s (at row c) (width_in s c)) over))
 
 -- a row's line, in bytes that can be printed
 abbrev pub row_text : SavedSheet → ℕ → List ℕ → ℕ → List ℕ
