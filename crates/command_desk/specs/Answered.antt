@@ -1,5 +1,6 @@
 -- What the answers of a command mean.
-use Rattle.std.specs.Prelude.{ℕ, ◌≤◌, ℤ, Bool, List, [], Option, Some, Result, Ok, Err, slice_get, unwrap_or}
+use Rattle.std.specs.Prelude.{ℕ, ◌≤◌, ℤ, Bool, List, [], Option, Some, Result, Err, slice_get, unwrap_or}
+use Rattle.std.specs.Result.{result_map_both}
 use Rattle.desk_answers.specs.Readings.{decimal_answer, order_answer, span_answer, whole_answer}
 use Rattle.desk_errors.specs.declared.error.CommandError.{CommandError}
 use Rattle.desk_errors.specs.declared.error.CommandError.TheVariants as error
@@ -18,14 +19,9 @@ line_at answers place = unwrap_or (slice_get answers place) []
 abbrev pub span_at : NameMap → List (List ℕ) → ℕ → Result Extent CommandError
 span_at names answers place = span_answer names (line_at answers place) place
 
--- of a span its first cell counts
-abbrev pub first_of : Result Extent CommandError → Result Place CommandError
-first_of (Ok span) = Ok span.first
-first_of (Err e) = Err e
-
--- the answer at a place as a cell
+-- the answer at a place as a cell; of a span its first one counts
 abbrev pub cell_at : NameMap → List (List ℕ) → ℕ → Result Place CommandError
-cell_at names answers place = first_of (span_at names answers place)
+cell_at names answers place = result_map_both (λ span. span.first) (λ e. e) (span_at names answers place)
 
 -- the answer at a place as a number, in millionths
 abbrev pub decimal_at : List (List ℕ) → ℕ → Result ℤ CommandError

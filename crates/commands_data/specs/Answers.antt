@@ -1,34 +1,25 @@
 -- What the answers of several prompts are together.
-use Rattle.std.specs.Prelude.{ℕ, ℤ, Bool, List, Result, Ok, Err}
+use Rattle.std.specs.Prelude.{ℕ, List, Result, Ok, Err}
 use Rattle.command_desk.specs.Answered.{cell_at, decimal_at, order_at, span_at}
 use Rattle.commands_data.specs.declared.filling.Filling.{Filling}
 use Rattle.data_blocks.specs.declared.key.SortKey.{SortKey}
 use Rattle.desk_errors.specs.declared.error.CommandError.{CommandError}
-use Rattle.grid_address.specs.Place.{Extent, Place}
 use Rattle.range_names.specs.Names.{NameMap}
 
--- a span, a start, a step and a stop, or the first error
-abbrev pub filling_of :
-    Result Extent CommandError → Result ℤ CommandError → Result ℤ CommandError → Result ℤ CommandError →
-    Result Filling CommandError
-filling_of (Ok span) (Ok start) (Ok step) (Ok stop) =
-    Ok (record { span = span; start = start; step = step; stop = stop })
-filling_of (Ok span) (Ok start) (Ok step) (Err e) = Err e
-filling_of (Ok span) (Ok start) (Err e) stop = Err e
-filling_of (Ok span) (Err e) step stop = Err e
-filling_of (Err e) start step stop = Err e
+-- something is made of an answer, or its error stands
+abbrev pub with_answer : {A B : Type 0} → Result A CommandError → (A → Result B CommandError) → Result B CommandError
+with_answer (Ok a) make = make a
+with_answer (Err e) make = Err e
 
--- the span, the start, the step and the stop that the answers of a fill are
+-- the span, the start, the step and the stop that the answers of a fill are, or the first error
 abbrev pub filling_at : NameMap → List (List ℕ) → Result Filling CommandError
 filling_at names answers =
-    filling_of (span_at names answers 0) (decimal_at answers 1) (decimal_at answers 2) (decimal_at answers 3)
+    with_answer (span_at names answers 0) (λ span. with_answer (decimal_at answers 1) (λ start.
+    with_answer (decimal_at answers 2) (λ step. with_answer (decimal_at answers 3) (λ stop.
+    Ok (record { span = span; start = start; step = step; stop = stop })))))
 
--- a cell's column and an order, or the first error
-abbrev pub key_of : Result Place CommandError → Result Bool CommandError → Result SortKey CommandError
-key_of (Ok cell) (Ok descending) = Ok (record { col = cell.col; descending = descending })
-key_of (Ok cell) (Err e) = Err e
-key_of (Err e) order = Err e
-
--- the key that the answers are: a cell of its column, and its order
+-- the key that the answers are: a cell of its column, and its order; or the first error
 abbrev pub key_at : NameMap → List (List ℕ) → Result SortKey CommandError
-key_at names answers = key_of (cell_at names answers 0) (order_at answers 1)
+key_at names answers =
+    with_answer (cell_at names answers 0) (λ cell. with_answer (order_at answers 1) (λ descending.
+    Ok (record { col = cell.col; descending = descending })))

@@ -4,9 +4,10 @@ use Rattle.std.specs.List.{list_any}
 use Rattle.command_desk.specs.Acting.{given, on_desk, refused, Acted, DeskActed}
 use Rattle.command_desk.specs.Answered.{span_at}
 use Rattle.command_desk.specs.Desks.{Desk}
+use Rattle.command_desk.specs.OnDesk as on_the_desk
 use Rattle.command_desk.specs.Writing.{all_made, sight_in}
 use Rattle.commands_data.specs.Answers.{filling_at, key_at}
-use Rattle.commands_data.specs.Kept.{kept, kept_by, with_key, with_last, with_range, without_query, without_sort}
+use Rattle.commands_data.specs.Kept.{if_finished, kept, with_key, with_range, without_query, without_sort}
 use Rattle.commands_data.specs.Made.{block_error, made, query_error}
 use Rattle.commands_data.specs.declared.filling.Filling.{Filling}
 use Rattle.commands_data.specs.declared.keeping.KeySetting.{KeySetting}
@@ -112,7 +113,7 @@ queried query.Delete r scene s = deleted r.input r.criterion scene s
 abbrev pub remembered : LastQuery → Acted → Desk → DeskActed
 remembered q a d = record {
   end = a.end;
-  desk = record d { sheet = a.done.sheet; ranges = with_last q a.end d.ranges };
+  desk = record d { sheet = a.done.sheet; ranges = if_finished a.end (λ r. record r { last_query = q }) d.ranges };
   log = a.done.log;
 }
 
@@ -122,11 +123,12 @@ query_made q scene d = remembered q (queried q d.ranges scene d.sheet) d
 
 -- the span that the answer is, is kept
 abbrev pub range_kept : RangeSetting → List (List ℕ) → Desk → DeskActed
-range_kept kind answers d = kept_by (span_at d.sheet.names answers 0) (with_range kind) d
+range_kept kind answers d =
+    on_the_desk.given (span_at d.sheet.names answers 0) (λ span. kept (with_range kind span) d) d
 
 -- the key that the answers are, is kept
 abbrev pub key_kept : KeySetting → List (List ℕ) → Desk → DeskActed
-key_kept kind answers d = kept_by (key_at d.sheet.names answers) (with_key kind) d
+key_kept kind answers d = on_the_desk.given (key_at d.sheet.names answers) (λ k. kept (with_key kind k) d) d
 
 -- what a command below Data does
 abbrev pub act : DataAction → List (List ℕ) → Scene → Desk → DeskActed

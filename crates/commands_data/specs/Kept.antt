@@ -1,8 +1,8 @@
 -- The settings that are kept for sorts and queries.
-use Rattle.std.specs.Prelude.{None, Some, Result, Ok, Err}
+use Rattle.std.specs.Prelude.{None, Some}
 use Rattle.command_desk.specs.Acting.{DeskActed}
 use Rattle.command_desk.specs.Desks.{Desk}
-use Rattle.command_desk.specs.OnDesk.{left, refused}
+use Rattle.command_desk.specs.OnDesk.{left}
 use Rattle.command_desk.specs.declared.ending.CommandEnd.{CommandEnd}
 use Rattle.command_desk.specs.declared.ending.CommandEnd.TheVariants.{Finished}
 use Rattle.commands_data.specs.declared.keeping.KeySetting.{KeySetting}
@@ -10,9 +10,7 @@ use Rattle.commands_data.specs.declared.keeping.KeySetting.TheVariants as key
 use Rattle.commands_data.specs.declared.keeping.RangeSetting.{RangeSetting}
 use Rattle.commands_data.specs.declared.keeping.RangeSetting.TheVariants as range
 use Rattle.data_blocks.specs.declared.key.SortKey.{SortKey}
-use Rattle.desk_errors.specs.declared.error.CommandError.{CommandError}
 use Rattle.data_blocks.specs.declared.ranges.DeskRanges.{DeskRanges}
-use Rattle.data_blocks.specs.declared.ranges.LastQuery.{LastQuery}
 use Rattle.grid_address.specs.Place.{Extent}
 
 -- the range of a sort, or one of a query's
@@ -35,16 +33,11 @@ without_sort r = record r { sort = None; primary = None; secondary = None }
 abbrev pub without_query : DeskRanges → DeskRanges
 without_query r = record r { input = None; criterion = None; output = None }
 
--- a query that was carried out is the last one
-abbrev pub with_last : LastQuery → CommandEnd → DeskRanges → DeskRanges
-with_last q Finished r = record r { last_query = q }
-with_last q _ r = r
+-- where a command was carried out, its settings are kept so
+abbrev pub if_finished : CommandEnd → (DeskRanges → DeskRanges) → DeskRanges → DeskRanges
+if_finished Finished change r = change r
+if_finished _ change r = r
 
 -- other settings are kept, and the sheet stays
 abbrev pub kept : (DeskRanges → DeskRanges) → Desk → DeskActed
 kept change d = left (record d { ranges = change d.ranges })
-
--- what an answer is, is kept, or its error refuses the command
-abbrev pub kept_by : {A : Type 0} → Result A CommandError → (A → DeskRanges → DeskRanges) → Desk → DeskActed
-kept_by (Ok a) change d = kept (change a) d
-kept_by (Err e) change d = refused e d

@@ -1,16 +1,15 @@
 -- The commands below Data > Table.
-use Rattle.std.specs.Prelude.{ℕ, List, [], ◌∷◌, ◌++◌, map, Option, None, Some, Result, Ok, Err}
+use Rattle.std.specs.Prelude.{ℕ, List, [], ◌∷◌, ◌++◌, map, Option, None, Some, option_map}
 use Rattle.std.specs.List.{flat_map}
 use Rattle.block_writes.specs.Writing.{at, rows_below}
 use Rattle.command_desk.specs.Acting.{error_of, finished, first_protected, on_desk, refused, Acted, DeskActed}
 use Rattle.command_desk.specs.Answered.{cell_at, span_at}
 use Rattle.command_desk.specs.Desks.{Desk}
 use Rattle.command_desk.specs.OnDesk as on_the_desk
-use Rattle.command_desk.specs.declared.ending.CommandEnd.{CommandEnd}
-use Rattle.command_desk.specs.declared.ending.CommandEnd.TheVariants.{Finished}
 use Rattle.data_blocks.specs.declared.ranges.DeskRanges.{DeskRanges}
 use Rattle.data_blocks.specs.declared.ranges.LastTable.{LastTable}
 use Rattle.data_blocks.specs.declared.ranges.LastTable.TheVariants as table
+use Rattle.commands_data.specs.Kept.{if_finished}
 use Rattle.commands_data.specs.Trying as trying
 use Rattle.data_blocks.specs.Tables.{columns_behind, shape_fault}
 use Rattle.data_blocks.specs.declared.fault.BlockFault.{BlockFault}
@@ -38,15 +37,10 @@ answer_cells s = flat_map (λ row. map (at row) (columns_behind s)) (rows_below 
 abbrev pub changed_cells : Extent → List Place → List Place
 changed_cells span inputs = inputs ++ answer_cells span
 
--- the error of a protected cell
-abbrev pub protected_error : Option Place → Option CommandError
-protected_error None = None
-protected_error (Some cell) = Some (error.Protected cell)
-
 -- a block's fault, and behind it the first protected one of the cells that are written
 abbrev pub refusal_by : Option BlockFault → List Place → Sheet → Option CommandError
 refusal_by (Some f) cells s = Some (block_error f)
-refusal_by None cells s = protected_error (first_protected cells s)
+refusal_by None cells s = option_map (λ c. error.Protected c) (first_protected cells s)
 
 -- why a table with these input cells is refused: by its shape, or by protection
 abbrev pub refusal : Extent → List Place → Sheet → Option CommandError
@@ -68,32 +62,22 @@ made (table.Two span down across) scene s =
 abbrev pub with_last : LastTable → DeskRanges → DeskRanges
 with_last t r = record r { last_table = t }
 
--- a table that was made is the last one
-abbrev pub ranges_after : CommandEnd → LastTable → DeskRanges → DeskRanges
-ranges_after Finished t r = with_last t r
-ranges_after _ t r = r
-
--- a table that was made on a desk is kept there
+-- a table that was made on a desk is the last one there
 abbrev pub keeping : LastTable → DeskActed → DeskActed
-keeping t a = record a { desk = record a.desk { ranges = ranges_after a.end t a.desk.ranges } }
+keeping t a = record a { desk = record a.desk { ranges = if_finished a.end (with_last t) a.desk.ranges } }
 
 -- a table is made on a desk
 abbrev pub made_on : LastTable → Scene → Desk → DeskActed
 made_on t scene d = keeping t (on_desk (made t scene) d)
 
--- what a command needs of its answers, or the error of one of them
-abbrev pub given_on : {A : Type 0} → Result A CommandError → (A → DeskActed) → Desk → DeskActed
-given_on (Ok a) next d = next a
-given_on (Err e) next d = on_the_desk.refused e d
-
 module _ (answers : List (List ℕ)) (scene : Scene) (d : Desk) where
   -- the span that the first answer is
   abbrev pub with_span : (Extent → DeskActed) → DeskActed
-  with_span next = given_on (span_at d.sheet.names answers 0) next d
+  with_span next = on_the_desk.given (span_at d.sheet.names answers 0) next d
 
   -- the cell that the answer at a place is
   abbrev pub with_cell : ℕ → (Place → DeskActed) → DeskActed
-  with_cell place next = given_on (cell_at d.sheet.names answers place) next d
+  with_cell place next = on_the_desk.given (cell_at d.sheet.names answers place) next d
 
   -- table 1: the span, and the cell that takes its inputs
   abbrev pub table_one : DeskActed

@@ -3,7 +3,7 @@ ghost use Rattle.std.specs.Prelude.{◌≡◌, IfOk};
 ghost use Rattle.command_desk.specs.Acting.{HasActedBy, HasActedOn};
 ghost use Rattle.command_desk.specs.Desks.{of_desk};
 ghost use Rattle.commands_data.specs.Commands.{deleted, deleted_from, extracted, extracted_into, queried, query_made};
-ghost use Rattle.commands_data.specs.Kept.{with_last};
+ghost use Rattle.commands_data.specs.Kept.{if_finished};
 
 use crate::faults::make_query;
 use command_desk::{CommandEnd, Desk, DeskRanges, LastQuery};
@@ -103,7 +103,7 @@ fn query(
 
 // A query that was carried out is the last one.
 fn remember(kind: LastQuery, end: &CommandEnd, ranges: &mut DeskRanges)
-    ensures { ranges.new ≡ with_last kind end.now ranges.old }
+    ensures { ranges.new ≡ if_finished end.now (λ r. record r { last_query = kind }) ranges.old }
 {
     if let CommandEnd::Finished = end {
         ranges.last_query = kind;

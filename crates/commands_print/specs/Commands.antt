@@ -2,10 +2,10 @@
 use Rattle.std.specs.Prelude.{◌≡◌, ℕ, ⊤, List, Option, None, Some, Result, Ok, Err}
 use Rattle.command_desk.specs.Answered.{line_at, span_at}
 use Rattle.command_desk.specs.Desks.{Desk}
-use Rattle.command_desk.specs.OnDesk.{left, refused}
+use Rattle.command_desk.specs.OnDesk.{given, left, refused}
 use Rattle.commands_file.specs.Calls.{puts, Reply}
 use Rattle.commands_file.specs.Commands.{by_call, named, saved_of, without_call, written_out, FileActed}
-use Rattle.commands_print.specs.Kept.{file_kept, kept, kept_by, number_kept, with_range, with_text}
+use Rattle.commands_print.specs.Kept.{file_kept, kept, number_kept, with_range, with_text}
 use Rattle.commands_print.specs.declared.keeping.NumberSetting.TheVariants.{Left, Right, Top, Bottom, Length}
 use Rattle.commands_print.specs.declared.keeping.TextSetting.TheVariants.{Header, Footer}
 use Rattle.desk_errors.specs.declared.error.CommandError.{CommandError}
@@ -48,7 +48,8 @@ printed (Some range) scene d reply = reported (report_of scene d range) d reply
 -- what a command below Print does, over what the shelf answers its call
 abbrev pub act : PrintAction → List (List ℕ) → Scene → Desk → Reply → FileActed
 act print.File answers scene d reply = without_call (file_kept (named ext.Prn answers) d)
-act print.Range answers scene d reply = without_call (kept_by (span_at d.sheet.names answers 0) with_range d)
+act print.Range answers scene d reply =
+    without_call (given (span_at d.sheet.names answers 0) (λ span. kept (with_range span) d) d)
 act print.Go answers scene d reply = printed d.print.range scene d reply
 act print.Header answers scene d reply = without_call (kept (with_text Header (line_at answers 0)) d)
 act print.Footer answers scene d reply = without_call (kept (with_text Footer (line_at answers 0)) d)

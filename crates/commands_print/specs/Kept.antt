@@ -1,15 +1,14 @@
 -- What is kept for reports.
-use Rattle.std.specs.Prelude.{ℕ, List, Option, None, Some, Result, Ok, Err}
+use Rattle.std.specs.Prelude.{ℕ, List, Option, None, Some}
 use Rattle.command_desk.specs.Acting.{DeskActed}
 use Rattle.command_desk.specs.Answered.{whole_at}
 use Rattle.command_desk.specs.Desks.{Desk}
-use Rattle.command_desk.specs.OnDesk.{left, refused}
+use Rattle.command_desk.specs.OnDesk.{given, left, refused}
 use Rattle.command_desk.specs.declared.printing.PrintDesk.{PrintDesk}
 use Rattle.commands_print.specs.declared.keeping.NumberSetting.{NumberSetting}
 use Rattle.commands_print.specs.declared.keeping.NumberSetting.TheVariants as number
 use Rattle.commands_print.specs.declared.keeping.TextSetting.{TextSetting}
 use Rattle.commands_print.specs.declared.keeping.TextSetting.TheVariants as text
-use Rattle.desk_errors.specs.declared.error.CommandError.{CommandError}
 use Rattle.desk_errors.specs.declared.error.CommandError.TheVariants as error
 use Rattle.grid_address.specs.Place.{Extent}
 use Rattle.menu_tree.specs.declared.menu.Action.TheVariants as action
@@ -20,10 +19,6 @@ use Rattle.print_report.specs.declared.settings.PrintSettings.{PrintSettings}
 -- the range that is printed
 abbrev pub with_range : Extent → PrintDesk → PrintDesk
 with_range span p = record p { range = Some span }
-
--- the file that it is written to
-abbrev pub with_file : List ℕ → PrintDesk → PrintDesk
-with_file name p = record p { file = Some name }
 
 -- a margin, or how many lines a page has
 abbrev pub number_set : NumberSetting → ℕ → PrintSettings → PrintSettings
@@ -50,15 +45,10 @@ with_text kind line p = record p { set = text_set kind line p.set }
 abbrev pub kept : (PrintDesk → PrintDesk) → Desk → DeskActed
 kept change d = left (record d { print = change d.print })
 
--- what an answer is, is kept, or its error refuses the command
-abbrev pub kept_by : {A : Type 0} → Result A CommandError → (A → PrintDesk → PrintDesk) → Desk → DeskActed
-kept_by (Ok a) change d = kept (change a) d
-kept_by (Err e) change d = refused e d
-
 -- the file is kept that an answer names, and one that is no file's name refuses the command
 abbrev pub file_kept : Option (List ℕ) → Desk → DeskActed
 file_kept None d = refused (error.InvalidFileName 0) d
-file_kept (Some name) d = kept (with_file name) d
+file_kept (Some name) d = kept (λ p. record p { file = Some name }) d
 
 -- the item that keeps a number
 abbrev pub item_of : NumberSetting → PrintAction
@@ -70,4 +60,5 @@ item_of number.Length = print.PageLength
 
 -- the number is kept that an answer is, within the bounds of its prompt
 abbrev pub number_kept : NumberSetting → List (List ℕ) → Desk → DeskActed
-number_kept kind answers d = kept_by (whole_at (action.Print (item_of kind)) answers 0) (with_number kind) d
+number_kept kind answers d =
+    given (whole_at (action.Print (item_of kind)) answers 0) (λ n. kept (with_number kind n) d) d

@@ -3,8 +3,9 @@ ghost use Rattle.std.specs.Prelude.{◌≡◌, ℕ, IfOk};
 ghost use Rattle.command_desk.specs.Acting.{HasActedOn};
 ghost use Rattle.command_desk.specs.Answered.{line_at, span_at};
 ghost use Rattle.command_desk.specs.Desks.{of_desk};
+ghost use Rattle.command_desk.specs.OnDesk.{given};
 ghost use Rattle.commands_file.specs.Commands.{named};
-ghost use Rattle.commands_print.specs.Kept.{file_kept, item_of, kept, kept_by, number_kept, number_set, text_set};
+ghost use Rattle.commands_print.specs.Kept.{file_kept, item_of, kept, number_kept, number_set, text_set};
 ghost use Rattle.commands_print.specs.Kept.{with_range, with_text};
 ghost use Rattle.outside_world.specs.declared.file_name.Ext.TheVariants as ext;
 
@@ -82,8 +83,9 @@ pub fn keep_file(answers: &Answers, desk: &mut Desk) -> CommandEnd
 
 /// Keeps the span that the answer is. It is refused by the errors of `span_at` alone.
 pub fn keep_range(answers: &Answers, desk: &mut Desk) -> CommandEnd
-    ensures { (n : ℕ) → HasActedOn (kept_by (span_at desk.old.sheet.names answers.now 0) with_range (of_desk desk.old))
-        result desk.old desk.new n n }
+    ensures { let before = of_desk desk.old in
+        let span = span_at desk.old.sheet.names answers.now 0 in (n : ℕ) →
+        HasActedOn (given span (λ s. kept (with_range s) before) before) result desk.old desk.new n n }
 {
     match span_at(desk.sheet.names(), answers, 0) {
         Ok(span) => {

@@ -114,9 +114,13 @@ abbrev pub dispatched : Outlook → Option (List ℕ) → Row
 dispatched w None = Err NotText
 dispatched w (Some text) = on_place w text goes
 
--- one call or loop more may be inside the others, which nest 31 deep
+-- calls and loops nest so deep
+abbrev pub most_frames : ℕ
+most_frames = 31
+
+-- one call or loop more may be inside the others
 abbrev pub has_room : Running → Bool
-has_room r = nat_lt (length r.frames) 31
+has_room r = nat_lt (length r.frames) most_frames
 
 -- the word at a place calls the routine at another
 abbrev pub calls_at : Running → Spot → Spot → Row

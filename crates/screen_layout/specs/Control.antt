@@ -58,13 +58,25 @@ front_text s =
 abbrev pub pointer_text : Sheet → List ℕ
 pointer_text s = front_text s ++ typed s.names s.grid s.settings.pointer
 
+-- the column before which what is told of the pointer's cell ends
+abbrev pub CONTENT_END : ℕ
+CONTENT_END = 72
+
+-- the column from which on the mode stands
+abbrev pub MODE_COLUMN : ℕ
+MODE_COLUMN = 73
+
+-- the last column
+abbrev pub LAST_COLUMN : ℕ
+LAST_COLUMN = 79
+
 -- it is cut after column 71, and the mode stands from column 73 on
 abbrev pub pointer_line : Sheet → Panel → List ℕ
-pointer_line s p = filled 73 (take 72 (pointer_text s)) ++ mode_text p.indicate p.mode
+pointer_line s p = filled MODE_COLUMN (take CONTENT_END (pointer_text s)) ++ mode_text p.indicate p.mode
 
 -- the line that is typed behind its prompt, from the byte that lets the cursor stand at column 79 at most
 abbrev pub typed_line : Panel → List ℕ
-typed_line p = drop (length (with_space p.prompt) + p.cursor - 79) (with_space p.prompt ++ p.typed)
+typed_line p = drop (length (with_space p.prompt) + p.cursor - LAST_COLUMN) (with_space p.prompt ++ p.typed)
 
 -- a menu stands in the panel's second and third line
 abbrev pub is_menu : Mode → Bool

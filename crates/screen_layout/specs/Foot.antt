@@ -29,11 +29,27 @@ marked false column word line = line
 abbrev pub wants_recalculation : Sheet → Bool
 wants_recalculation s = s.stale && not s.settings.automatic
 
--- CALC from column 50 on, before which the moment or the message ends, CIRC from 56, END from 62 and CMD from 67
+-- the column from which on CALC stands; the moment or the message ends before it
+abbrev pub CALC_COLUMN : ℕ
+CALC_COLUMN = 50
+
+-- the column from which on CIRC stands
+abbrev pub CIRC_COLUMN : ℕ
+CIRC_COLUMN = 56
+
+-- the column from which on END stands
+abbrev pub END_COLUMN : ℕ
+END_COLUMN = 62
+
+-- the column from which on CMD stands
+abbrev pub CMD_COLUMN : ℕ
+CMD_COLUMN = 67
+
+-- the moment or the message, and the indicators
 abbrev pub foot_line : Sheet → Panel → Option ℕ → ℕ → List ℕ
 foot_line s p day second =
-    marked p.running 67 (codes "CMD")
-    (marked p.end 62 (codes "END")
-    (marked s.circular 56 (codes "CIRC")
-    (marked (wants_recalculation s) 50 (codes "CALC")
-    (take 50 (first_part p.mode p.message day second)))))
+    marked p.running CMD_COLUMN (codes "CMD")
+    (marked p.end END_COLUMN (codes "END")
+    (marked s.circular CIRC_COLUMN (codes "CIRC")
+    (marked (wants_recalculation s) CALC_COLUMN (codes "CALC")
+    (take CALC_COLUMN (first_part p.mode p.message day second)))))

@@ -4,17 +4,15 @@ use Rattle.std.proofs.lemmas.Bool.{true≢false}
 use Rattle.command_desk.specs.Acting.{DeskActed}
 use Rattle.command_desk.specs.Answered.{cell_at, span_at}
 use Rattle.command_desk.specs.Desks.{Desk}
+use Rattle.command_desk.specs.OnDesk.{given}
 use Rattle.commands_data.specs.Answers.{key_at}
 use Rattle.commands_data.specs.Commands as on_data
-use Rattle.commands_data.specs.Kept.{kept_by}
-use Rattle.commands_data.specs.TableCommands.{given_on}
 use Rattle.commands_file.specs.Calls.{failed, fetched, loaded, puts, there, written, Reply}
 use Rattle.commands_file.specs.Commands.{act_by, act_named, by_call, extracted_to, is_readable, named, put_readable}
 use Rattle.commands_file.specs.Commands.{refused, saved_as, sheet_bytes, span_bytes, taken_away, with_file}
 use Rattle.commands_file.specs.Commands.{without_call, written_out}
 use Rattle.commands_file.specs.declared.extracting.Extracting.{Extracting}
 use Rattle.commands_file.specs.declared.extracting.Extracting.TheVariants.{Formulas, Values}
-use Rattle.data_blocks.specs.declared.ranges.DeskRanges.{DeskRanges}
 use Rattle.desk_errors.specs.declared.error.CommandError.{CommandError}
 use Rattle.desk_errors.specs.declared.error.CommandError.TheVariants as error
 use Rattle.formula_parts.specs.declared.look.Scene.{Scene}
@@ -35,14 +33,9 @@ KeepsOf d a = a.desk.print ≡ d.print
 
 module _ (d : Desk) where
   by_given : {A : Type 0} (r : Result A CommandError) (next : A → DeskActed) → ((a : A) → KeepsOf d (next a))
-      → KeepsOf d (given_on r next d)
+      → KeepsOf d (given r next d)
   by_given (Ok a) next h = h a
   by_given (Err e) next h = refl
-
-  by_kept : {A : Type 0} (r : Result A CommandError) (change : A → DeskRanges → DeskRanges)
-      → KeepsOf d (kept_by r change d)
-  by_kept (Ok a) change = refl
-  by_kept (Err e) change = refl
 
   by_file : (make : SavedSheet → DeskActed) (reply : Reply) → ((saved : SavedSheet) → KeepsOf d (make saved))
       → KeepsOf d (with_file make d reply)
@@ -111,14 +104,14 @@ module _ (d : Desk) where
   by_data : (a : DataAction) (answers : List (List ℕ)) (scene : Scene) → KeepsOf d (on_data.act a answers scene d)
   by_data records.Fill answers scene = refl
   by_data records.Distribution answers scene = refl
-  by_data records.DataRange answers scene = by_kept (span_at d.sheet.names answers 0) _
-  by_data records.PrimaryKey answers scene = by_kept (key_at d.sheet.names answers) _
-  by_data records.SecondaryKey answers scene = by_kept (key_at d.sheet.names answers) _
+  by_data records.DataRange answers scene = by_given (span_at d.sheet.names answers 0) _ (λ span. refl)
+  by_data records.PrimaryKey answers scene = by_given (key_at d.sheet.names answers) _ (λ k. refl)
+  by_data records.SecondaryKey answers scene = by_given (key_at d.sheet.names answers) _ (λ k. refl)
   by_data records.SortReset answers scene = refl
   by_data records.SortGo answers scene = refl
-  by_data records.Input answers scene = by_kept (span_at d.sheet.names answers 0) _
-  by_data records.Criterion answers scene = by_kept (span_at d.sheet.names answers 0) _
-  by_data records.Output answers scene = by_kept (span_at d.sheet.names answers 0) _
+  by_data records.Input answers scene = by_given (span_at d.sheet.names answers 0) _ (λ span. refl)
+  by_data records.Criterion answers scene = by_given (span_at d.sheet.names answers 0) _ (λ span. refl)
+  by_data records.Output answers scene = by_given (span_at d.sheet.names answers 0) _ (λ span. refl)
   by_data records.Extract answers scene = refl
   by_data records.Unique answers scene = refl
   by_data records.QueryReset answers scene = refl
