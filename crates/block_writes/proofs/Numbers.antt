@@ -1,11 +1,17 @@
 -- One more number, and one more cell.
-use Rattle.std.proofs.Common.{◌≡◌, ℕ, ◌+◌, List, [], ◌∷◌, ◌++◌, sym, ap, ◌∙◌, append_assoc, arith}
+use Rattle.std.proofs.Common.{◌≡◌, ℕ, zero, suc, ◌+◌, List, [], ◌∷◌, ◌++◌, length}
+use Rattle.std.proofs.Common.{refl, sym, ap, ◌∙◌, append_assoc, arith}
 use Rattle.std.specs.List.{flat_map}
 use Rattle.std.proofs.lemmas.List.{append-nil, map-append}
 use Rattle.std.proofs.lemmas.Grind.{flat_map-append}
 use Rattle.grid_address.specs.Place.{Extent, Place}
 use Rattle.block_writes.specs.Writing.{at, down, numbers_from, rows_of}
 pub use Rattle.grid_address.proofs.Numbers.{numbers_more}
+
+-- as many numbers as were asked for
+pub numbers_count : (n k : ℕ) → length (numbers_from n k) ≡ k
+numbers_count n zero = refl
+numbers_count n (suc k) = omega (arith, numbers_count (n + 1) k)
 
 -- the cells down one more row
 pub down_more : (col n k : ℕ) → down col (numbers_from n (k + 1)) ≡ down col (numbers_from n k) ++ at (n + k) col ∷ []

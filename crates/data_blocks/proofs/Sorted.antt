@@ -1,10 +1,11 @@
 -- Rows that are sorted by a cell of each are sorted.
 use Rattle.std.proofs.Common.{◌≡◌, ℕ, ◌+◌, ◌<◌, List, [], ◌∷◌, length, get_or, map, cond, refl, sym, ap, ◌∙◌, arith}
-use Rattle.std.specs.Prelude.{zero, suc, Bool, true, false}
+use Rattle.std.specs.Prelude.{Bool, true, false}
 use Rattle.std.specs.List.{filter}
 use Rattle.std.specs.List.Sorted.{IsSortedBy, IsStableBy, ties}
 use Rattle.std.proofs.lemmas.List.{get_or-map, length-map}
 use Rattle.grid_address.specs.Place.{Place}
+use Rattle.block_writes.proofs.Numbers.{numbers_count}
 use Rattle.block_writes.specs.Writing.{at, down, numbers_from}
 
 -- the row of a cell
@@ -44,10 +45,6 @@ module _ (lt : ℕ → ℕ → Bool) where
       → IsStableBy lt (map row_of xs) (map row_of ys)
   rows_stable xs ys same =
       λ x. filter_rows (ties lt x) ys ∙ ap (map row_of) (same (at x 0)) ∙ sym (filter_rows (ties lt x) xs)
-
-numbers_count : (n k : ℕ) → length (numbers_from n k) ≡ k
-numbers_count n zero = refl
-numbers_count n (suc k) = omega (arith, numbers_count (n + 1) k)
 
 -- a span has as many first cells as rows
 pub cells_count : (col n k : ℕ) → length (down col (numbers_from n k)) ≡ k

@@ -1,11 +1,12 @@
 -- The records that are wanted, and the rows that move up.
-use Rattle.std.proofs.Common.{◌≡◌, ℕ, zero, suc, ◌+◌, ◌-◌, ◌≤◌, List, [], ◌∷◌, ◌++◌, map, length, cond, refl, sym, ap}
+use Rattle.std.proofs.Common.{◌≡◌, ℕ, suc, ◌+◌, ◌-◌, ◌≤◌, List, [], ◌∷◌, ◌++◌, map, length, cond, refl, sym, ap}
 use Rattle.std.proofs.Common.{◌∙◌, arith}
 use Rattle.std.specs.Prelude.{Bool, true, false}
 use Rattle.std.specs.List.{filter}
 use Rattle.std.proofs.lemmas.List.{length-map}
 use Rattle.grid_address.specs.Place.{Extent, Place}
 use Rattle.formula_parts.specs.Outlook.{Outlook, Sight}
+use Rattle.block_writes.proofs.Numbers.{numbers_count}
 use Rattle.block_writes.specs.Writing.{at, columns_of, numbers_from, rows_below, rows_copied, rows_of}
 use Rattle.sheet_store.specs.declared.writes.Write.{Write}
 use Rattle.data_query.specs.inner.Plans.{behind_first, records}
@@ -19,10 +20,6 @@ row_of p = p.row
 pub rows_back : (col : ℕ) (rows : List ℕ) → map row_of (map (λ row. at row col) rows) ≡ rows
 rows_back col [] = refl
 rows_back col (row ∷ rows) = ap (λ l. row ∷ l) (rows_back col rows)
-
-numbers_count : (n k : ℕ) → length (numbers_from n k) ≡ k
-numbers_count n zero = refl
-numbers_count n (suc k) = ap suc (numbers_count (n + 1) k)
 
 -- no more rows pass than there are
 pub filter_count : (test : ℕ → Bool) (rows : List ℕ) → length (filter test rows) ≤ length rows
