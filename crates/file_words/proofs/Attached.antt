@@ -3,6 +3,7 @@ use Rattle.std.proofs.Common.{◌≡◌, ℕ, ◌≤◌, Bool, true, false, List
 use Rattle.std.proofs.Common.{ap, inl, refl, subst, sym, ◌∙◌}
 use Rattle.std.proofs.lemmas.Bool.{false≢true}
 use Rattle.std.specs.Prelude.{is_some, option_map}
+use Rattle.commands_file.proofs.Answered.{answered_then}
 use Rattle.commands_file.proofs.Broken.{broken_before, broken_behind, put_unfinished, read_unfinished}
 use Rattle.commands_file.specs.Calls.{failed, fetched, fetches, shelf_view, written, Asked, HasAnswered, HaveAnswered}
 use Rattle.commands_file.specs.Calls.{HaveBrokenOff, Reply, ShelfView}
@@ -152,12 +153,6 @@ take_failed name Modify before after m n now counted h =
       answered = one_call _ _ _ (record { told = h.1; faults = counted });
     }
 
--- calls, and then more of them
-both_answered : (first more : List Asked) (a b c : ShelfView) → HaveAnswered first a b → HaveAnswered more b c
-    → HaveAnswered (first ++ more) a c
-both_answered [] more a b c is next = subst (λ (v : ShelfView). HaveAnswered more v c) is next
-both_answered (x ∷ xs) more a b c (middle, was, rest) next = (middle, was, both_answered xs more middle b c rest next)
-
 abbrev asked_of : List ℕ → Access → Spot → Reply → Reply → Option Attached → Served
 asked_of name access at first second c = served_by at (attaching name access c first second)
 
@@ -179,7 +174,7 @@ module _ (name : List ℕ) (access : Access) (at : Spot) (old : Option Attached)
         channel_so = second.channel_so ∙ ap (λ (o : Attaching). o.channel) (sym is);
         answered =
             subst (λ (o : Attaching). HaveAnswered o.calls x z) (sym is)
-            (both_answered before.calls next.calls x y z first.answered second.answered);
+            (answered_then before.calls next.calls x y z first.answered second.answered);
       }
 
   -- the finishing failed
