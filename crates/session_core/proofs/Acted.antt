@@ -16,7 +16,7 @@ use Rattle.sheet_undo.specs.Histories.{History}
 use Rattle.session_core.specs.Keeping.{with_history}
 use Rattle.session_core.specs.Machine.{scene_at, Outcome, State}
 use Rattle.session_core.specs.inner.Leading.{Leads, LeadsOver, Worked}
-use Rattle.session_core.proofs.Answered.{answered_then}
+use Rattle.commands_file.proofs.Answered.{answered_then}
 
 -- the state over the desk that a command leaves
 abbrev over_desk : State → Desk → State

@@ -15,7 +15,7 @@ use Rattle.session_core.specs.inner.Leading.{Leads, LeadsOver, Worked}
 use Rattle.session_core.specs.declared.entering.Meant.{Meant}
 use Rattle.session_core.specs.declared.entering.Meant.TheVariants.{Means, Faulty}
 use Rattle.session_rooms.specs.declared.answers.AnsweredCommand.{AnsweredCommand}
-use Rattle.session_core.proofs.Answered.{answered_then}
+use Rattle.commands_file.proofs.Answered.{answered_then}
 use Rattle.session_core.proofs.Failing.{failed_calls}
 
 -- where no call is made any answer serves

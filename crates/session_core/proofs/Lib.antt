@@ -1,7 +1,6 @@
 pub mod Acted
 pub mod Afresh
 pub mod Alone
-pub mod Answered
 pub mod Begun
 pub mod Breaking
 pub mod Failing

@@ -3,7 +3,7 @@ use Rattle.std.proofs.Common.{◌≡◌, ℕ, zero, suc, Bool, true, false, List
 use Rattle.std.proofs.Common.{◌∙◌, inl, inr}
 use Rattle.std.specs.FinMap.{get}
 use Rattle.std.specs.List.{filter}
-use Rattle.std.specs.Prelude.{◌||◌, cond, is_some}
+use Rattle.std.specs.Prelude.{is_some}
 use Rattle.std.proofs.lemmas.Bool.{cases_Bool, cond-false, false_from_ne_true, or_left, or_right, true≢false}
 use Rattle.cell_maps.specs.Sets.{has}
 use Rattle.formula_eval.specs.Mean.{mean}
@@ -12,6 +12,7 @@ use Rattle.formula_tree.specs.Tree.{Tree}
 use Rattle.grid_address.proofs.Places.{same_place_is}
 use Rattle.grid_address.specs.Place.{same_place, Place}
 use Rattle.recalculation.proofs.Contents.{same_evaluated, same_itself, same_on}
+use Rattle.recalculation.proofs.Outside.{passed_out}
 use Rattle.recalculation.proofs.Valued.{get_valued, with_value}
 use Rattle.recalculation.specs.Passes.{evaluated, pass, passes, revalued, IsRest, IsSound, Meaning, RecalculationIsCut}
 use Rattle.recalculation.specs.Passes.{SameContents}
@@ -28,19 +29,6 @@ use Rattle.work_sheet.specs.Sheets.{AllDirtyIn}
 none_of : (o : Option Tree) → (is_some o ≡ true → ⊥) → o ≡ None
 none_of None apart = refl
 none_of (Some t) apart = absurd (apart refl)
-
--- a cell that a test refuses is not among those that pass it
-refused : (test : Place → Bool) (cells : List Place) (c : Place) → test c ≡ false
-    → has same_place (filter test cells) c ≡ false
-refused test [] c out = refl
-refused test (d ∷ cells) c out =
-    elim (test d) as (λ b. test d ≡ b → has same_place (cond b (d ∷ filter test cells) (filter test cells)) c ≡ false) [
-      | true ↦ λ passes_it.
-          let apart : same_place c d ≡ false = false_from_ne_true (same_place c d)
-          (λ e. true≢false (sym passes_it ∙ ap test (sym (same_place_is c d e)) ∙ out)) in
-          ap (λ (b : Bool). b || has same_place (filter test cells) c) apart ∙ refused test cells c out
-      | false ↦ λ fails_it. refused test cells c out
-    ] refl
 
 module _ (mean : Meaning) (x : Context) where
   -- an evaluation writes no other cell
@@ -107,7 +95,7 @@ module _ (mean : Meaning) (x : Context) where
     along = filter (has same_place dirty) (natural_order g).done
 
     not_along : has same_place along c ≡ false
-    not_along = refused (has same_place dirty) (natural_order g).done c clean
+    not_along = passed_out (has same_place dirty) (natural_order g).done c clean
 
     -- in the natural order the passes are passes over the dirty ones
     naturally : (n : ℕ) → get (passes mean x n (natural_order g).done g).cells c ≡ get g.cells c

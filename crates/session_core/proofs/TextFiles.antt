@@ -19,29 +19,22 @@ use Rattle.work_sheet.specs.Sheets.{Worksheet}
 use Rattle.work_sheet.specs.Work.{HasWorked, Work}
 use Rattle.sheet_undo.specs.Histories.{History}
 use Rattle.session_core.specs.Keeping.{with_history}
-use Rattle.session_core.specs.Machine.{scene_at, sheet_of, with_channel, with_macro, with_sheet, State}
+use Rattle.session_core.specs.Machine.{scene_at, sheet_of, with_channel, State}
 use Rattle.session_core.specs.inner.Leading.{Leads, LeadsOver, Worked}
 use Rattle.session_core.specs.Step.{by_file, by_word, on_file, protected_target, served_as}
-use Rattle.session_core.proofs.Answered.{answered_then}
+use Rattle.commands_file.proofs.Answered.{answered_then}
 use Rattle.session_core.proofs.Failing.{failed_calls}
+use Rattle.session_core.proofs.Stepping.{over_step, over_work}
 
 -- what follows from what holds of a good answer holds of it too
 pub on_ok_map : {A E P Q : Type 0} (r : Result A E) → (P → Q) → OnOk r P → OnOk r Q
 on_ok_map (Ok x) f p = f p
 on_ok_map (Err e) f p = p
 
--- the state over the sheet and the macro that a deed leaves
-abbrev over_deed : State → Sheet → Option Running → State
-over_deed s sheet r = with_sheet sheet (with_macro r s)
-
--- the same over a worksheet, with its history
-abbrev pub over_carried : State → Worksheet → Option Running → State
-over_carried s w r = with_history w.history (over_deed s (of_worksheet w) r)
-
 -- a deed of the macro leads on
 pub carried_leads : (scene : Scene) (d : Deed) (a b : Worked) (running new_running : Option Running)
     (came : StepEnd) (v w : Worksheet) (m n : ℕ) → running ≡ a.state.running → of_worksheet v ≡ sheet_of a.state
-    → v.history ≡ a.state.history → work_of v m ≡ a.work → b.state ≡ over_carried a.state w new_running
+    → v.history ≡ a.state.history → work_of v m ≡ a.work → b.state ≡ over_work a.state w new_running
     → b.work ≡ work_of w n → HasStepped (carried_step scene d running (of_worksheet v)) came new_running v w m n
     → Leads (served_as (Some d) scene a.state) false a b
 carried_leads scene d a b running new_running came v w m n running_is sheet_is history_is work_is state_is done_is h =
@@ -51,10 +44,10 @@ carried_leads scene d a b running new_running came v w m n running_is sheet_is h
     (subst (λ (r : Option Running). HasStepped (carried_step scene d r (of_worksheet v)) came new_running v w m n)
     running_is h) in
     record {
-      state = state_is ∙ ap (λ (k : History). with_history k (over_deed a.state (of_worksheet w) new_running))
+      state = state_is ∙ ap (λ (k : History). with_history k (over_step a.state (of_worksheet w) new_running))
           (here.did.history ∙ history_is)
-          ∙ ap (λ (s : Sheet). over_deed a.state s new_running) here.did.sheet
-          ∙ ap (over_deed a.state step.done.sheet) here.running;
+          ∙ ap (λ (s : Sheet). over_step a.state s new_running) here.did.sheet
+          ∙ ap (over_step a.state step.done.sheet) here.running;
       work = subst (λ (u : Work). HasWorked step.done.log u b.work) work_is
           (subst (λ (u : Work). HasWorked step.done.log (work_of v m) u) (sym done_is) here.did.work);
       ends = refl;
