@@ -49,16 +49,11 @@ use Rattle.sheet_run.specs.declared.options.Start.{Start}
 use Rattle.sheet_run.specs.declared.options.Start.TheVariants as given
 use Rattle.sheet_run.proofs.Endings.{handled}
 use Rattle.sheet_run.proofs.Fronts.{may_begin, must_quit, quit_before, quit_by_then, shorter_begins}
-use Rattle.sheet_run.proofs.Going.{answered_both}
+use Rattle.commands_file.proofs.Answered.{answered_then}
 use Rattle.sheet_run.proofs.WordBegun.{front_words}
 use Rattle.key_words.proofs.Scanning.{prefix_keys}
 use Rattle.sheet_run.proofs.Pressed.{into_spelled, pressed-append, pressed_more}
-
--- what the keys told was taken from their bytes
-took : (bytes taken : List ℕ) (told now : Option (List ℕ)) → told ≡ Some bytes → TakesBytes told taken now
-    → (rest : List ℕ) × (bytes ≡ taken ++ rest) × (now ≡ Some rest)
-took bytes taken None now is t = absurd cc
-took bytes taken (Some xs) now is t = let same : xs ≡ bytes = cc in (t.0, sym same ∙ t.1, t.2)
+use Rattle.sheet_run.proofs.Taken.{took}
 
 none_left : (rest : List ℕ) (now : Option (List ℕ)) → now ≡ Some rest → AtEnd now → rest ≡ []
 none_left rest now is end = subst AtEnd is end
@@ -290,7 +285,7 @@ may_make : (answers : Answers) (o : Options) (bounds : Bounds) (before : Outside
 may_make answers o bounds before start first begun now taken steps left out opened fine did on =
     let s : State = (begins start first) in
     let had : HaveAnswered ((opening start.sheet first).calls ++ calls_of s steps) before.shelf now.shelf =
-    answered_both (opening start.sheet first).calls (calls_of s steps) before.shelf opened.shelf now.shelf
+    answered_then (opening start.sheet first).calls (calls_of s steps) before.shelf opened.shelf now.shelf
     opened.answered
     (subst (λ (v : ShelfView). HaveAnswered (calls_of s steps) v now.shelf)
     (ap (λ (x : Outside). x.shelf) opened.now_is) did.shelf) in

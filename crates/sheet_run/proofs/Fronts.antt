@@ -32,7 +32,9 @@ fit_front : (front back : List Step) (s : State) → Fit s (front ++ back) → F
 fit_front [] back s fit = tt
 fit_front (x ∷ xs) back s fit = (fit.0, fit_front xs back (outcome s x).state fit.1)
 
-go_on_front : (strict : Bool) (front back : List Step) (s : State) → GoOn strict s (front ++ back) → GoOn strict s front
+-- none of the first of steps that go on ends the run
+pub go_on_front : (strict : Bool) (front back : List Step) (s : State) → GoOn strict s (front ++ back)
+    → GoOn strict s front
 go_on_front strict [] back s on = tt
 go_on_front strict (x ∷ xs) back s on = (on.0, go_on_front strict xs back (outcome s x).state on.1)
 

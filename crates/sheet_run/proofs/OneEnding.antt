@@ -1,8 +1,8 @@
 -- Two runs over the same keys, readings and files end in the same way.
 use Rattle.std.proofs.Common.{◌≡◌, ℕ, ◌+◌, ◌-◌, ◌^◌, ◌≤◌, Bool, true, false, List, [], ◌∷◌, ◌++◌, length, Option}
-use Rattle.std.proofs.Common.{Some, None, refl, sym, ap, ◌∙◌, subst, arith, ◌⊎◌, inl, inr, append_assoc, length-append}
+use Rattle.std.proofs.Common.{Some, refl, sym, ap, ◌∙◌, subst, arith, ◌⊎◌, inl, inr, append_assoc, length-append}
 use Rattle.std.proofs.lemmas.Bool.{cases_lt, true≢false}
-use Rattle.std.proofs.lemmas.List.{append-nil}
+use Rattle.std.proofs.lemmas.List.{append-nil, nil_from_length}
 use Rattle.outside_world.specs.Causes.{Rose}
 use Rattle.key_words.specs.Notation.{Begins, IsNoText, SpellsWords}
 use Rattle.key_words.specs.declared.key.Key.{Key}
@@ -17,7 +17,7 @@ use Rattle.sheet_run.specs.Notes.{LeavesSession}
 use Rattle.sheet_run.specs.Notation.{HasKeys, SpellsKeys, SpellsUpTo}
 use Rattle.sheet_run.specs.Run.{after, key_in, keys_of, leaves_undone, moments_of, outcome, EndAtLast, Fit, HasRun}
 use Rattle.sheet_run.specs.Run.{Outside, Step}
-use Rattle.sheet_run.specs.Taking.{AtEnd, Ended, TakesBytes}
+use Rattle.sheet_run.specs.Taking.{AtEnd, Ended}
 use Rattle.sheet_run.specs.declared.drive.Ending.{Ending}
 use Rattle.sheet_run.specs.declared.drive.Ending.TheVariants.{KeysEnded, Undone, Quit, Refused, BadWord, KeysFailed}
 use Rattle.sheet_run.specs.declared.drive.Ending.TheVariants.{Stopped, NoMemory}
@@ -28,6 +28,7 @@ use Rattle.sheet_run.proofs.OneText.{one_up_to, Give}
 use Rattle.sheet_run.proofs.SameSteps.{all_go, fit_at, go_before, keys-append, last_before, one_last, outcomes}
 use Rattle.sheet_run.proofs.SameSteps.{same_after, same_event, same_length, stop_or_go, stops_last, AllGo, Alike}
 use Rattle.sheet_run.proofs.SameSteps.{Compared, GoBefore, as_long, longer, shorter}
+use Rattle.sheet_run.proofs.Taken.{took}
 
 -- none of the bytes is left, or so many were taken that no more can be counted
 abbrev pub AtTheEnd : List ℕ → List ℕ → Type 0
@@ -126,15 +127,11 @@ cancel [] a b e = e
 cancel (x ∷ xs) a b e = let rest : xs ++ a ≡ xs ++ b = cc in cancel xs a b rest
 
 -- a list of length 0 is empty
-pub no_items : {X : Type 0} (xs : List X) → length xs ≡ 0 → xs ≡ []
-no_items [] e = refl
-no_items (x ∷ xs) e = absurd (omega (arith, e))
-
 -- two beginnings of one list, as long as each other
 same_front : {X : Type 0} (a b c d : List X) → a ++ b ≡ c ++ d → length a ≡ length c → a ≡ c
 same_front {X} a b c d e same =
     let more = shorter_begins a b c d e (omega (arith, same)) in
-    let none = no_items more.0 (omega (arith, same, ap length more.1, length-append a more.0)) in
+    let none = nil_from_length more.0 (omega (arith, same, ap length more.1, length-append a more.0)) in
     sym (more.1 ∙ ap (λ (l : List X). a ++ l) none ∙ append-nil a)
 
 -- no more bytes were taken where these were all
@@ -340,12 +337,6 @@ module _ (bounds : Bounds) (s t : State) (xs ys : List Step) (bytes taken taken'
           one_up_to taken rest taken' rest' (keys_of ys ++ key_in next') both
               (subst (SpellsUpTo taken) keys spelled) spelled',
         )
-
--- what the keys told was taken from their bytes
-took : (bytes taken : List ℕ) (told now : Option (List ℕ)) → told ≡ Some bytes → TakesBytes told taken now →
-    (rest : List ℕ) × (bytes ≡ taken ++ rest) × (now ≡ Some rest)
-took bytes taken None now is t = absurd cc
-took bytes taken (Some xs) now is t = let same : xs ≡ bytes = cc in (t.0, sym same ∙ t.1, t.2)
 
 -- at the end of what the keys tell none is left
 at_the_end : (taken rest : List ℕ) (now : Option (List ℕ)) → now ≡ Some rest → Ended taken now → AtTheEnd taken rest

@@ -2,7 +2,7 @@
 use Rattle.std.proofs.Common.{◌≡◌, ℕ, ◌+◌, Bool, List, [], ◌++◌, length, map, Option, Some, None}
 use Rattle.std.proofs.Common.{Result, Ok, Err, refl, sym, ap, ◌∙◌, subst, arith, inl, inr, length-append}
 use Rattle.std.specs.Prelude.{if◌then◌else◌}
-use Rattle.std.proofs.lemmas.List.{length-map}
+use Rattle.std.proofs.lemmas.List.{length-map, nil_from_length}
 use Rattle.outside_world.specs.Causes.{Rose}
 use Rattle.outside_world.specs.Clock.{TakesReading}
 use Rattle.serial_date.specs.declared.moment.Moment.{Moment}
@@ -27,12 +27,12 @@ use Rattle.sheet_run.specs.declared.opening.NotRead.{NotRead}
 use Rattle.sheet_run.specs.declared.options.Options.{Options}
 use Rattle.sheet_run.specs.declared.options.Start.TheVariants as given
 use Rattle.sheet_run.proofs.Completing.{none_failed}
-use Rattle.sheet_run.proofs.Going.{answered_both}
+use Rattle.commands_file.proofs.Answered.{answered_then}
 use Rattle.session_core.proofs.OneResult.{left_alike}
 use Rattle.work_sheet.proofs.OneWork.{one_work as one_work_of}
 use Rattle.work_sheet.specs.Doing.{Happened}
 use Rattle.sheet_run.proofs.OneBeginning.{one_refusal, one_start, read_or_refused}
-use Rattle.sheet_run.proofs.OneEnding.{cancel, closed, no_items, one_end, Closed}
+use Rattle.sheet_run.proofs.OneEnding.{cancel, closed, one_end, Closed}
 use Rattle.sheet_run.proofs.OneText.{both_give}
 use Rattle.sheet_run.proofs.SameSteps.{compare, one_reading, same_after, same_calls, same_happened, same_readings}
 use Rattle.sheet_run.proofs.SameSteps.{same_screens, split_fine}
@@ -109,7 +109,7 @@ half o before now status found text bytes fin told well =
     subst (λ (v : ShelfView). HaveAnswered (calls_of s fin.steps) v now.outside.shelf) v0
     (subst (λ (v : ShelfView). HaveAnswered (calls_of s fin.steps) fin.begun.shelf v) (sym v1) c.did.shelf) in
     let all : HaveAnswered (calls_from fin.start ++ calls_of s fin.steps) before.outside.shelf now.outside.shelf =
-    answered_both (calls_from fin.start) (calls_of s fin.steps) before.outside.shelf fin.opened.shelf now.outside.shelf
+    answered_then (calls_from fin.start) (calls_of s fin.steps) before.outside.shelf fin.opened.shelf now.outside.shelf
     fin.opened.answered had in
     let fine = split_fine (calls_from fin.start) (calls_of s fin.steps)
     (none_failed (calls_from fin.start ++ calls_of s fin.steps) before.outside.shelf now.outside.shelf all
@@ -131,8 +131,8 @@ half o before now status found text bytes fin told well =
       had = had;
       fine_start = fine.0;
       fine_steps = fine.1;
-      none_out = no_items fin.out (omega (arith, none));
-      none_out_now = no_items fin.out_now (omega (arith, none));
+      none_out = nil_from_length fin.out (omega (arith, none));
+      none_out_now = nil_from_length fin.out_now (omega (arith, none));
     }
 
 -- what two tell of the same, seen from what is told as they do

@@ -3,7 +3,7 @@ use Rattle.std.proofs.Common.{◌≡◌, ℕ, ◌+◌, true, false, List, [], �
 use Rattle.std.proofs.Common.{ap, ◌∙◌, subst, arith, ◌⊎◌, inl, inr, append_assoc, length-append}
 use Rattle.std.specs.Prelude.{replicate}
 use Rattle.std.proofs.lemmas.Bool.{cases_lt, true≢false}
-use Rattle.std.proofs.lemmas.List.{append-nil, length-replicate}
+use Rattle.std.proofs.lemmas.List.{append-nil, length-replicate, nil_from_length}
 use Rattle.key_words.specs.Notation.{nothing, one_word, Begins, BeginsWord, HasKeys as HasWords, SpellsWords}
 use Rattle.key_words.specs.Notation.{SpellsWord}
 use Rattle.key_words.specs.declared.begun.Begun.{Begun}
@@ -15,7 +15,7 @@ use Rattle.sheet_run.proofs.Completing.{into_all}
 use Rattle.sheet_run.proofs.Fronts.{shorter_begins}
 use Rattle.sheet_run.proofs.Pressed.{into_spelled, pressed-append}
 use Rattle.sheet_run.proofs.WordBegun.{begun_in, begun_scanned, is_line_end, keys_in, last_behind, last_of, line_ends}
-use Rattle.sheet_run.proofs.WordBegun.{more_keys, no_items, word_last}
+use Rattle.sheet_run.proofs.WordBegun.{more_keys, word_last}
 
 -- bytes begin a text, and the words that are whole in them give these keys, and maybe more
 pub record Give (bytes : List ℕ) (keys : List Key) : Type 0 where
@@ -192,7 +192,7 @@ no_keys_behind words (Some (xs, q)) more r none is =
     let empty : length xs ≡ 0 =
     omega (arith, ap length lists, ap length none, length-append words xs, length-append words more) in
     let begun : q ≡ r = ap begun_in is in
-    ap (λ (l : Keys). Some (l, q)) (no_items xs empty) ∙ ap (λ (b : Begun). Some ([], b)) begun
+    ap (λ (l : Keys). Some (l, q)) (nil_from_length xs empty) ∙ ap (λ (b : Begun). Some ([], b)) begun
 
 -- bytes up to the word in which some keys end, and the same with more behind: no more stand there
 up_to_longer : (a m : List ℕ) (keys : List Key) → SpellsUpTo a keys → SpellsUpTo (a ++ m) keys → m ≡ []

@@ -20,7 +20,7 @@ use Rattle.sheet_run.specs.Run.{EndAtLast, Fit, GoOn, Step}
 use Rattle.sheet_run.specs.Taking.{TakesReadings}
 use Rattle.session_core.proofs.OneOutcome.{one_outcome as one_step}
 use Rattle.session_core.proofs.OneResult.{left_alike}
-use Rattle.sheet_run.proofs.Fronts.{shorter_begins}
+use Rattle.sheet_run.proofs.Fronts.{go_on_front, shorter_begins}
 use Rattle.work_sheet.specs.Doing.{Happened}
 
 -- what each of the steps comes to
@@ -127,10 +127,6 @@ pub all_go : (strict : Bool) (xs : List Step) (s : State) → GoOn strict s xs �
 all_go strict [] s on = tt
 all_go strict (x ∷ xs) s on = (on.0, all_go strict xs (outcome s x).state on.1)
 
-go_front : (strict : Bool) (front back : List Step) (s : State) → GoOn strict s (front ++ back) → GoOn strict s front
-go_front strict [] back s on = tt
-go_front strict (x ∷ xs) back s on = (on.0, go_front strict xs back (outcome s x).state on.1)
-
 -- none of the steps before others ends the run
 abbrev pub GoBefore : Bool → State → List Step → Type 0
 GoBefore strict s steps = (front : List Step) (x : Step) (rest : List Step) → steps ≡ front ++ x ∷ rest →
@@ -138,7 +134,7 @@ GoBefore strict s steps = (front : List Step) (x : Step) (rest : List Step) → 
 
 -- before any of steps that go on, the run goes on
 pub go_before : (strict : Bool) (s : State) (steps : List Step) → GoOn strict s steps → GoBefore strict s steps
-go_before strict s steps on front x rest is = go_front strict front (x ∷ rest) s (subst (GoOn strict s) is on)
+go_before strict s steps on front x rest is = go_on_front strict front (x ∷ rest) s (subst (GoOn strict s) is on)
 
 -- before any of steps whose last ends the run, it goes on
 pub last_before : (strict : Bool) (s : State) (steps : List Step) → EndAtLast strict s steps → GoBefore strict s steps
@@ -147,7 +143,7 @@ last_before strict s steps last front x rest is =
     let count : length front ≤ length last.front =
     omega (arith, ap length both, length-append front (x ∷ rest), length-append last.front (last.last ∷ [])) in
     let more = shorter_begins front (x ∷ rest) last.front (last.last ∷ []) both count in
-    go_front strict front more.0 s (subst (GoOn strict s) more.1 last.go_on)
+    go_on_front strict front more.0 s (subst (GoOn strict s) more.1 last.go_on)
 
 -- of the outcomes of steps whose last ends the run, the last ends it
 abbrev pub stops_last : (strict : Bool) (s : State) (steps : List Step) → (last : EndAtLast strict s steps) →
