@@ -226,7 +226,7 @@ class Rules:
                 if not any(re.search(rf"\b(fn|struct|trait|enum|type) {last}\b", code[crate]) for crate in crates):
                     self.fault(f"docs/THEOREMS.md:{number}: no crate that it names has {call}")
             for part in cells[2].split(";"):
-                crate, *files = re.findall(r"\w+", part)
+                crate, *files = re.findall(r"[\w/]+", part)
                 for word in files:
                     if word in code:
                         crate = word

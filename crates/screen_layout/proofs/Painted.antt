@@ -9,7 +9,7 @@ use Rattle.shown_cells.specs.Cells.{padded, shown_byte}
 use Rattle.shown_cells.proofs.Bytes.{shown_least}
 use Rattle.screen_layout.specs.Screen.{line_text, screen, screen_line}
 use Rattle.work_sheet.specs.Seen.{Sheet}
-use Rattle.control_panel.specs.declared.panel.Panel.{Panel}
+use Rattle.session_rooms.specs.declared.panel.Panel.{Panel}
 use Rattle.screen_show.specs.Screen.{IsScreen, IsPrinted}
 use Rattle.screen_layout.proofs.Cuts.{padded_length}
 

@@ -9,9 +9,9 @@ use Rattle.recalculation.specs.Context.{format_of}
 use Rattle.sheet_store.specs.Grid.{width_of}
 use Rattle.screen_layout.specs.Lines.{filled}
 use Rattle.work_sheet.specs.Seen.{Sheet}
-use Rattle.control_panel.specs.declared.panel.Mode.{Mode}
-use Rattle.control_panel.specs.declared.panel.Mode.TheVariants.{Ready, Label, Value, Edit, Point, Menu, Error}
-use Rattle.control_panel.specs.declared.panel.Panel.{Panel}
+use Rattle.session_rooms.specs.declared.panel.Mode.{Mode}
+use Rattle.session_rooms.specs.declared.panel.Mode.TheVariants.{Ready, Label, Value, Edit, Point, Menu, Error}
+use Rattle.session_rooms.specs.declared.panel.Panel.{Panel}
 use Rattle.work_sheet.specs.Typed.{typed}
 
 -- the word that tells a mode

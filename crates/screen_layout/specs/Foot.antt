@@ -4,9 +4,9 @@ use Rattle.cell_format.specs.Numbers.{shown_number, two_digits}
 use Rattle.grid_address.specs.Formats.{date_format}
 use Rattle.screen_layout.specs.Lines.{filled}
 use Rattle.work_sheet.specs.Seen.{Sheet}
-use Rattle.control_panel.specs.declared.panel.Mode.{Mode}
-use Rattle.control_panel.specs.declared.panel.Mode.TheVariants.{Error}
-use Rattle.control_panel.specs.declared.panel.Panel.{Panel}
+use Rattle.session_rooms.specs.declared.panel.Mode.{Mode}
+use Rattle.session_rooms.specs.declared.panel.Mode.TheVariants.{Error}
+use Rattle.session_rooms.specs.declared.panel.Panel.{Panel}
 
 -- the day, the hour and the minute, as 01-Jun-87 14:05; nothing where the clock has no day
 abbrev pub moment_text : Option ℕ → ℕ → List ℕ

@@ -8,7 +8,7 @@ use Rattle.screen_layout.specs.Control.{below_line, entry_line, pointer_line}
 use Rattle.screen_layout.specs.Foot.{foot_line}
 use Rattle.screen_layout.specs.Lines.{shown_line}
 use Rattle.work_sheet.specs.Seen.{Sheet}
-use Rattle.control_panel.specs.declared.panel.Panel.{Panel}
+use Rattle.session_rooms.specs.declared.panel.Panel.{Panel}
 
 -- a row of the sheet; below row 8192 there is none
 abbrev pub row_line : Sheet → ℕ → ℕ → List ℕ

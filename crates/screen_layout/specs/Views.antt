@@ -1,5 +1,5 @@
 -- Panels whose lines stand elsewhere.
-use Rattle.control_panel.specs.declared.panel.Panel.{Panel}
+use Rattle.session_rooms.specs.declared.panel.Panel.{Panel}
 use Rattle.screen_layout.specs.declared.panel_view.PanelView.{PanelView}
 
 -- the panel that is viewed

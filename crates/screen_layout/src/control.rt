@@ -13,10 +13,10 @@ ghost use Rattle.work_sheet.specs.Typed.{typed};
 use crate::painted_line::PaintedLine;
 use crate::panel_view::PanelView;
 use cell_format::indicator;
-use control_panel::Mode;
 use formula_parts::Look;
 use grid_address::{Cell, Format, cell_text, decimal_text};
 use lics_text::Line;
+use session_rooms::Mode;
 use work_sheet::Worksheet;
 
 // The column before which what is told of the pointer's cell ends.

@@ -10,11 +10,11 @@ ghost use Rattle.work_sheet.specs.Seen.{of_worksheet};
 use crate::painted_line::PaintedLine;
 use crate::panel_view::PanelView;
 use cell_format::show_number;
-use control_panel::Mode;
 use fixed_value::Fixed;
 use grid_address::Format;
 use lics_text::Line;
 use serial_date::Moment;
+use session_rooms::Mode;
 use work_sheet::Worksheet;
 
 // The columns from which on the indicators stand; what is told before them ends at the first.

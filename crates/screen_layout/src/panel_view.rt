@@ -1,9 +1,9 @@
 // A panel whose lines stand elsewhere.
 ghost use Rattle.std.specs.Prelude.{◌≡◌, []};
-ghost use Rattle.control_panel.specs.Panels.{line_panel};
+ghost use Rattle.session_rooms.specs.Panels.{line_panel};
 ghost use Rattle.screen_layout.specs.Views.{viewed};
 
-use control_panel::{Mode, Panel};
+use session_rooms::{Mode, Panel};
 
 /// A panel whose lines stand elsewhere, as where they are typed.
 #[derive(Clone, Copy)]

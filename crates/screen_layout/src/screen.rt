@@ -11,10 +11,10 @@ use crate::columns::columns_line;
 use crate::control::{below_line, entry_line, pointer_line, text_line};
 use crate::foot::foot_line;
 use crate::panel_view::PanelView;
-use control_panel::Panel;
 use grid_address::{Cell, ROWS};
 use screen_show::{LineSet, Screen};
 use serial_date::Moment;
+use session_rooms::Panel;
 use work_sheet::Worksheet;
 
 // A row of the sheet; below row 8192 there is none.

@@ -26,9 +26,9 @@ use Rattle.macro_engine.specs.declared.steps.StepEnd.TheVariants.{Types, Works}
 use Rattle.macro_words.specs.declared.files.FileDeed.{FileDeed}
 use Rattle.macro_words.specs.declared.running.Deed.{Deed}
 use Rattle.menu_tree.specs.declared.menu.Action.{Action}
-use Rattle.prompt_room.specs.Opening.{opening}
-use Rattle.prompt_room.specs.declared.following.WhatFollows.{WhatFollows}
-use Rattle.prompt_room.specs.declared.following.WhatFollows.TheVariants.{Asks, Looks, Acts}
+use Rattle.room_keys.specs.prompt.Opening.{opening}
+use Rattle.room_keys.specs.declared.prompt.following.WhatFollows.{WhatFollows}
+use Rattle.room_keys.specs.declared.prompt.following.WhatFollows.TheVariants.{Asks, Looks, Acts}
 use Rattle.session_rooms.specs.declared.answers.AnsweredCommand.{AnsweredCommand}
 use Rattle.session_rooms.specs.declared.turn.Turn.{Turn}
 use Rattle.session_rooms.specs.declared.turn.Turn.TheVariants as turn

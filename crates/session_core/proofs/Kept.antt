@@ -6,9 +6,9 @@ use Rattle.std.proofs.lemmas.Bool.{and_parts, cases_lt, eqb-true, false_from_ne_
 use Rattle.std.proofs.lemmas.Bool.{true≢false}
 use Rattle.std.proofs.lemmas.List.{nil_from_length}
 use Rattle.std.proofs.lemmas.Option.{slice_get_past}
-use Rattle.control_panel.specs.declared.panel.Mode.{Mode}
-use Rattle.control_panel.specs.declared.panel.Mode.TheVariants as mode
-use Rattle.control_panel.specs.declared.panel.Panel.{Panel}
+use Rattle.session_rooms.specs.declared.panel.Mode.{Mode}
+use Rattle.session_rooms.specs.declared.panel.Mode.TheVariants as mode
+use Rattle.session_rooms.specs.declared.panel.Panel.{Panel}
 use Rattle.grid_address.specs.Place.{Place}
 use Rattle.macro_words.specs.declared.running.Running.{Running}
 use Rattle.macro_words.specs.declared.waiting.Switches.{Switches}
@@ -26,7 +26,7 @@ use Rattle.session_rooms.specs.declared.rooms.Room.{Room}
 use Rattle.session_rooms.specs.declared.rooms.Room.TheVariants as room
 use Rattle.session_rooms.specs.declared.rooms.TypingMode.{TypingMode}
 use Rattle.session_rooms.specs.declared.rooms.TypingMode.TheVariants.{Label, Value, Edit}
-use Rattle.typing_room.specs.Room.{told_mode}
+use Rattle.room_keys.specs.typing.Room.{told_mode}
 use Rattle.work_sheet.specs.Seen.{Sheet}
 use Rattle.session_core.specs.Frozen.{frozen_after, frozen_by, held_at, line_over}
 use Rattle.session_core.specs.inner.Glances.{glance_of, is_plain, lacks_menu, marks_of, plain_mode, told_plainly}

@@ -17,9 +17,9 @@ use Rattle.macro_engine.specs.declared.steps.StepEnd.{StepEnd}
 use Rattle.macro_engine.specs.declared.steps.StepEnd.TheVariants.{Faulty, Files, Indicates, Moves, Refused, Types}
 use Rattle.macro_engine.specs.declared.steps.StepEnd.TheVariants.{Works}
 use Rattle.macro_words.specs.declared.files.FileDeed.{FileDeed}
-use Rattle.prompt_room.specs.Opening.{opening}
-use Rattle.prompt_room.specs.declared.following.WhatFollows.{WhatFollows}
-use Rattle.prompt_room.specs.declared.following.WhatFollows.TheVariants.{Asks, Looks, Acts}
+use Rattle.room_keys.specs.prompt.Opening.{opening}
+use Rattle.room_keys.specs.declared.prompt.following.WhatFollows.{WhatFollows}
+use Rattle.room_keys.specs.declared.prompt.following.WhatFollows.TheVariants.{Asks, Looks, Acts}
 use Rattle.serial_date.specs.declared.moment.Moment.{Moment}
 use Rattle.session_core.specs.Act.{act}
 use Rattle.session_core.specs.Carrying.{acted, behind, behind_calls, carried, done_by, left_by, looked_as}

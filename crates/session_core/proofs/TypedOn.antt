@@ -25,7 +25,7 @@ use Rattle.session_rooms.specs.declared.rooms.TypingRoom.{TypingRoom}
 use Rattle.session_rooms.specs.declared.turn.Turn.{Turn}
 use Rattle.session_rooms.specs.declared.turn.Turn.TheVariants as turn
 use Rattle.sheet_store.specs.Grid.{Grid}
-use Rattle.typing_room.specs.Room.{edited, keyed, press_by}
+use Rattle.room_keys.specs.typing.Room.{edited, keyed, press_by}
 
 -- a line goes on, also where it is full
 edited_on : (fits : Bool) (r : TypingRoom) →

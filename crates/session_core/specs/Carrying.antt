@@ -20,12 +20,12 @@ use Rattle.macro_engine.specs.Catching.{caught, handles_errors, Caught}
 use Rattle.macro_engine.specs.Steps.{macro_named}
 use Rattle.macro_text.specs.declared.unit.MacroFault.TheVariants as fault
 use Rattle.macro_words.specs.Moves.{begun_at}
-use Rattle.menu_room.specs.Room.{menu_or_ready}
+use Rattle.room_keys.specs.menu.Room.{menu_or_ready}
 use Rattle.menu_tree.specs.Levels.{back}
 use Rattle.menu_tree.specs.declared.menu.Action.{Action}
-use Rattle.prompt_room.specs.Opening.{opening}
-use Rattle.prompt_room.specs.declared.following.WhatFollows.{WhatFollows}
-use Rattle.prompt_room.specs.declared.following.WhatFollows.TheVariants.{Asks, Looks, Acts}
+use Rattle.room_keys.specs.prompt.Opening.{opening}
+use Rattle.room_keys.specs.declared.prompt.following.WhatFollows.{WhatFollows}
+use Rattle.room_keys.specs.declared.prompt.following.WhatFollows.TheVariants.{Asks, Looks, Acts}
 use Rattle.screen_layout.specs.Columns.{columns_shown}
 use Rattle.session_rooms.specs.declared.answers.AnsweredCommand.{AnsweredCommand}
 use Rattle.session_rooms.specs.declared.rooms.Answering.{Answering}

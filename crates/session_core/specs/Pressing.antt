@@ -1,16 +1,16 @@
 -- What a key comes to, and what the panel shows, by what the session is doing.
 use Rattle.std.specs.Prelude.{Bool}
 use Rattle.command_desk.specs.Desks.{Desk}
-use Rattle.control_panel.specs.declared.panel.Panel.{Panel}
+use Rattle.session_rooms.specs.declared.panel.Panel.{Panel}
 use Rattle.key_words.specs.declared.key.Key.{Key}
 use Rattle.key_words.specs.declared.key.Key.TheVariants as key
-use Rattle.menu_room.specs.Room as menu
-use Rattle.point_room.specs.Room as point
-use Rattle.prompt_room.specs.Panel as prompt_panel
-use Rattle.prompt_room.specs.Room as prompt
-use Rattle.ready_room.specs.Failed as failed
-use Rattle.ready_room.specs.Ready as ready
-use Rattle.typing_room.specs.Room as typing
+use Rattle.room_keys.specs.menu.Room as menu
+use Rattle.room_keys.specs.pointing.Room as point
+use Rattle.room_keys.specs.prompt.Panel as prompt_panel
+use Rattle.room_keys.specs.prompt.Room as prompt
+use Rattle.room_keys.specs.ready.Failed as failed
+use Rattle.room_keys.specs.ready.Ready as ready
+use Rattle.room_keys.specs.typing.Room as typing
 use Rattle.session_rooms.specs.declared.rooms.Room.{Room}
 use Rattle.session_rooms.specs.declared.rooms.Room.TheVariants as room
 use Rattle.session_rooms.specs.declared.turn.Turn.{Turn}

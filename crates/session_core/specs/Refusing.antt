@@ -4,8 +4,8 @@ use Rattle.entry_line.specs.Line.{Entry}
 use Rattle.grid_address.specs.Address.{decimal}
 use Rattle.key_words.specs.declared.key.Key.{Key}
 use Rattle.key_words.specs.declared.key.Key.TheVariants as key
-use Rattle.menu_room.specs.Room as menu
-use Rattle.prompt_room.specs.Room as prompt
+use Rattle.room_keys.specs.menu.Room as menu
+use Rattle.room_keys.specs.prompt.Room as prompt
 use Rattle.session_rooms.specs.declared.rooms.Room.{Room}
 use Rattle.session_rooms.specs.declared.rooms.Room.TheVariants as room
 use Rattle.session_core.specs.declared.refusal.Refusal.{Refusal}

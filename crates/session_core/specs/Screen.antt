@@ -1,6 +1,6 @@
 -- The screen of a state.
 use Rattle.std.specs.Prelude.{ℕ, List}
-use Rattle.control_panel.specs.declared.panel.Panel.{Panel}
+use Rattle.session_rooms.specs.declared.panel.Panel.{Panel}
 use Rattle.screen_layout.specs.Screen.{screen as painted}
 use Rattle.session_core.specs.Frozen.{with_frozen}
 use Rattle.session_core.specs.Machine.{is_running, sheet_of, State}

@@ -1,7 +1,7 @@
 -- What a run is told of a step, and of the session where it ends.
 use Rattle.std.specs.Prelude.{ℕ, Bool, true, false, not, ◌&&◌, List, codes, Option}
-use Rattle.control_panel.specs.declared.panel.Mode.{Mode}
-use Rattle.control_panel.specs.declared.panel.Mode.TheVariants.{Ready}
+use Rattle.session_rooms.specs.declared.panel.Mode.{Mode}
+use Rattle.session_rooms.specs.declared.panel.Mode.TheVariants.{Ready}
 use Rattle.screen_layout.specs.Control.{mode_name}
 use Rattle.session_rooms.specs.declared.rooms.Room.{Room}
 use Rattle.session_rooms.specs.declared.rooms.Room.TheVariants as room

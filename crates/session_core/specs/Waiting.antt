@@ -2,9 +2,9 @@
 use Rattle.std.specs.Prelude.{ℕ, ◌+◌, nat_lt, List, [], map, take, Option, None, Some, if◌then◌else◌, unwrap_or}
 use Rattle.std.specs.List.{range_with_len}
 use Rattle.command_desk.specs.Writing.{sight_in}
-use Rattle.control_panel.specs.Panels.{line_panel, plain_panel}
-use Rattle.control_panel.specs.declared.panel.Mode.TheVariants as mode
-use Rattle.control_panel.specs.declared.panel.Panel.{Panel}
+use Rattle.session_rooms.specs.Panels.{line_panel, plain_panel}
+use Rattle.session_rooms.specs.declared.panel.Mode.TheVariants as mode
+use Rattle.session_rooms.specs.declared.panel.Panel.{Panel}
 use Rattle.grid_address.specs.Place.{Place}
 use Rattle.grid_address.specs.Limits.{ROWS}
 use Rattle.lics_text.specs.Limits.{MAX_LEN}
@@ -15,7 +15,7 @@ use Rattle.macro_words.specs.declared.waiting.MacroMenu.{MacroMenu}
 use Rattle.macro_words.specs.declared.waiting.Question.{Question}
 use Rattle.macro_words.specs.declared.waiting.Waiting.{Waiting}
 use Rattle.macro_words.specs.declared.waiting.Waiting.TheVariants as waiting
-use Rattle.menu_room.specs.Ring.{items_line}
+use Rattle.room_keys.specs.menu.Ring.{items_line}
 use Rattle.work_sheet.specs.Seen.{Sheet}
 
 -- the text of an item of a menu; nothing where none stands there

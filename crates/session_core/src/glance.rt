@@ -1,13 +1,13 @@
 // Which lines of the screen may be others after a step.
 ghost use Rattle.std.specs.Prelude.{◌≡◌, ◌≤◌, ◌<◌, ℕ, false, true, is_some, slice_get, Some};
-ghost use Rattle.control_panel.specs.declared.panel.Mode.TheVariants.{Ready};
+ghost use Rattle.session_rooms.specs.declared.panel.Mode.TheVariants.{Ready};
 ghost use Rattle.session_core.specs.inner.Glances.{lacks_menu, IsKept, KeepsBelow, KeepsRow, Stays};
 
 use crate::rows::{FOOT, insert_rows};
 use crate::touched::Touched;
-use control_panel::Mode;
 use grid_address::Cell;
 use screen_show::LineSet;
+use session_rooms::Mode;
 
 /// The day, where the clock has one, the hour and the minute.
 #[derive(Clone, Copy, PartialEq, Eq)]

@@ -1,7 +1,7 @@
 // What a key comes to, and what is shown, by what the session is doing.
 ghost use Rattle.std.specs.Prelude.{◌≡◌, IfOk, IfSome, IsOk};
 ghost use Rattle.command_desk.specs.Desks.{of_desk};
-ghost use Rattle.menu_room.specs.Room as menu;
+ghost use Rattle.room_keys.specs.menu.Room as menu;
 ghost use Rattle.screen_layout.specs.Views.{viewed};
 ghost use Rattle.session_core.specs.inner.Glances.{plain_mode};
 ghost use Rattle.session_core.specs.inner.Typing.{is_line_typed, with_byte};
@@ -9,12 +9,12 @@ ghost use Rattle.session_core.specs.Moving.{KeepsNoAnswer, TakesNoMemory};
 ghost use Rattle.session_core.specs.Pressing.{pressed, room_panel, turn_of};
 
 use command_desk::Desk;
-use control_panel::{Mode, Panel};
 use key_words::Key;
 use lics_text::{Memory, TextByte};
+use room_keys::typing::told_mode;
+use room_keys::{menu, pointing, prompt, ready, typing};
 use screen_layout::PanelView;
-use session_rooms::{MenuRoom, Room, Turn};
-use typing_room::told_mode;
+use session_rooms::{MenuRoom, Mode, Panel, Room, Turn};
 
 // What a key comes to in a room.
 fn pressed(room: Room, key: Key, end: bool, desk: &Desk) -> Result<Turn, Memory>
@@ -24,12 +24,12 @@ fn pressed(room: Room, key: Key, end: bool, desk: &Desk) -> Result<Turn, Memory>
     let sheet = &desk.sheet;
     let pointer = sheet.settings().pointer;
     match room {
-        Room::Ready => Ok(ready_room::press(key, end, sheet, &desk.ranges)),
-        Room::Typing(room) => Ok(typing_room::press(key, sheet.cells(), pointer, room)),
-        Room::Pointing(room) => Ok(point_room::press(key, sheet.cells(), pointer, room)),
-        Room::Menu(room) => Ok(menu_room::press(sheet.alloc(), key, room)),
-        Room::Asking(room) => prompt_room::press(key, sheet, room),
-        Room::Failed(message) => Ok(ready_room::press_failed(key, message)),
+        Room::Ready => Ok(ready::press(key, end, sheet, &desk.ranges)),
+        Room::Typing(room) => Ok(typing::press(key, sheet.cells(), pointer, room)),
+        Room::Pointing(room) => Ok(pointing::press(key, sheet.cells(), pointer, room)),
+        Room::Menu(room) => Ok(menu::press(sheet.alloc(), key, room)),
+        Room::Asking(room) => prompt::press(key, sheet, room),
+        Room::Failed(message) => Ok(ready::press_failed(key, message)),
     }
 }
 
@@ -74,12 +74,12 @@ pub(crate) fn room_panel(room: &Room) -> Panel
     ensures { result ≡ room_panel room.now }
 {
     match room {
-        Room::Ready => ready_room::panel(),
-        Room::Typing(room) => typing_room::panel(room),
-        Room::Pointing(room) => point_room::panel(room),
-        Room::Menu(room) => menu_room::panel(room),
-        Room::Asking(room) => prompt_room::panel(room),
-        Room::Failed(message) => ready_room::failed_panel(message),
+        Room::Ready => ready::panel(),
+        Room::Typing(room) => typing::panel(room),
+        Room::Pointing(room) => pointing::panel(room),
+        Room::Menu(room) => menu::panel(room),
+        Room::Asking(room) => prompt::panel(room),
+        Room::Failed(message) => ready::failed_panel(message),
     }
 }
 

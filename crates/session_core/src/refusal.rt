@@ -4,6 +4,7 @@ ghost use Rattle.session_core.specs.Refusing.{key_refused, letter_refused, unles
 
 use key_words::Key;
 use lics_text::Line;
+use room_keys::{menu, prompt};
 use session_rooms::Room;
 
 /// What a step refused beside an error that it tells: nothing, a finished line, which has a fault, or a letter that
@@ -38,8 +39,8 @@ fn letter_refused(letter: u8, room: &Room) -> Refusal
     ensures { result ≡ letter_refused letter room.now }
 {
     match room {
-        Room::Menu(room) => unless(menu_room::lacks_item(room, letter), letter),
-        Room::Asking(room) => unless(prompt_room::lacks_item(room, letter), letter),
+        Room::Menu(room) => unless(menu::lacks_item(room, letter), letter),
+        Room::Asking(room) => unless(prompt::lacks_item(room, letter), letter),
         Room::Ready | Room::Typing(_) | Room::Pointing(_) | Room::Failed(_) => Refusal::Nothing,
     }
 }

@@ -1,18 +1,18 @@
 // What is shown of a macro that waits.
 ghost use Rattle.std.specs.Prelude.{◌≡◌, ◌≤◌, length, option_copied, take};
 ghost use Rattle.lics_text.specs.Bytes.{IsText};
-ghost use Rattle.menu_room.specs.Ring.{items_line};
+ghost use Rattle.room_keys.specs.menu.Ring.{items_line};
 ghost use Rattle.session_core.specs.Waiting as spec;
 ghost use Rattle.session_core.specs.inner.Showing.{shows_waiting};
 ghost use Rattle.work_sheet.specs.Seen.{of_worksheet};
 
-use control_panel::{Mode, Panel};
 use formula_parts::Look;
 use grid_address::{Cell, ROWS};
 use lics_text::{Line, MAX_LEN};
 use macro_text::macro_text;
 use macro_words::{MacroMenu, Question, Running, Waiting, beside, item_text};
-use menu_room::put_item;
+use room_keys::menu::put_item;
+use session_rooms::{Mode, Panel};
 use work_sheet::Worksheet;
 
 // The text of an item of a menu; nothing where none stands there.

@@ -1,12 +1,12 @@
 -- How the session keeps in mind what the lines of its screen hang on beside the cells: it paints only the lines for
 -- which that is otherwise than before.
 use Rattle.std.specs.Prelude.{◌≡◌, ⊤, ℕ, ◌+◌, ◌-◌, ◌/◌, ◌%◌, ◌≤◌, ◌<◌, ◌&&◌, nat_eq, length, Bool, true, false, not, is_some, if◌then◌else◌, Option, None, Some}
-use Rattle.control_panel.specs.declared.panel.Mode.{Mode}
-use Rattle.control_panel.specs.declared.panel.Mode.TheVariants.{Ready, Menu}
+use Rattle.session_rooms.specs.declared.panel.Mode.{Mode}
+use Rattle.session_rooms.specs.declared.panel.Mode.TheVariants.{Ready, Menu}
 use Rattle.screen_layout.specs.Foot.{wants_recalculation}
 use Rattle.session_rooms.specs.declared.rooms.Room.{Room}
 use Rattle.session_rooms.specs.declared.rooms.Room.TheVariants as room
-use Rattle.typing_room.specs.Room.{told_mode}
+use Rattle.room_keys.specs.typing.Room.{told_mode}
 use Rattle.session_core.specs.inner.Still.{still_of}
 use Rattle.session_core.specs.Machine.{is_running, sheet_of, State}
 use Rattle.session_core.specs.inner.Showing.{shows_waiting}

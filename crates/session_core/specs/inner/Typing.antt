@@ -5,7 +5,7 @@ use Rattle.session_core.specs.Machine.{State}
 use Rattle.session_core.specs.declared.refusal.Refusal.TheVariants as refusal
 use Rattle.session_rooms.specs.declared.rooms.Room.{Room}
 use Rattle.session_rooms.specs.declared.rooms.Room.TheVariants as room
-use Rattle.typing_room.specs.Room.{keyed}
+use Rattle.room_keys.specs.typing.Room.{keyed}
 
 -- whether a line is typed
 abbrev pub is_line_typed : Room → Bool

@@ -1,6 +1,6 @@
 // What is painted of a session.
 ghost use Rattle.std.specs.Prelude.{◌≡◌, ◌≤◌, IfSome, [], get_or, slice_set};
-ghost use Rattle.menu_room.specs.Room as menu;
+ghost use Rattle.room_keys.specs.menu.Room as menu;
 ghost use Rattle.screen_layout.specs.Views.{viewed};
 ghost use Rattle.screen_show.specs.Changes.{Unchanged};
 ghost use Rattle.session_core.specs.inner.Glances.{glance_of, is_plain, marks_of, minute_of, told_plainly};
@@ -11,12 +11,11 @@ use super::Machine;
 use crate::glance::{Foot, Glance, Marks, Minute};
 use crate::pressing::{plain_menu, plain_mode, plain_view, room_panel};
 use crate::waiting::{shows_waiting, waiting_panel};
-use control_panel::{Mode, Panel};
-use menu_room::{shown_below, shown_items};
+use room_keys::menu::{shown_below, shown_items};
 use screen_layout::{PanelView, line_at, wants_recalculation};
 use screen_show::{LineSet, Screen};
 use serial_date::Moment;
-use session_rooms::MenuRoom;
+use session_rooms::{MenuRoom, Mode, Panel};
 
 impl Machine {
     // The minute of the last step.

@@ -7,12 +7,11 @@ ghost use Rattle.session_core.specs.Standing.{is_at_rest, is_ready, left_in, ref
 use super::Machine;
 use crate::pressing::room_panel;
 use crate::refusal::{Refusal, RefusedText};
-use control_panel::Mode;
 use entry_line::EntryLine;
 use grid_address::decimal_text;
 use lics_text::{Line, MAX_LEN};
 use screen_layout::mode_name;
-use session_rooms::Room;
+use session_rooms::{Mode, Room};
 
 // Whether something is told, by what the session does.
 fn is_told(refusal: Refusal, room: &Room) -> bool

@@ -1,6 +1,6 @@
 use Rattle.std.proofs.Common.{◌≡◌, ℕ, ◌+◌, ◌<◌, List, [], get_or, set, Option, ap, sym, subst, ◌∙◌, arith}
 use Rattle.screen_layout.specs.Views.{viewed}
-use Rattle.control_panel.specs.declared.panel.Panel.{Panel}
+use Rattle.session_rooms.specs.declared.panel.Panel.{Panel}
 use Rattle.grid_address.specs.Place.{Place}
 use Rattle.screen_layout.specs.Screen.{screen}
 use Rattle.screen_layout.proofs.Painted.{line_at, shaped}

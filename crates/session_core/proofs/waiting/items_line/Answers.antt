@@ -3,8 +3,8 @@ use Rattle.std.specs.List.{range_with_len}
 use Rattle.std.specs.Prelude.{take}
 use Rattle.std.proofs.lemmas.List.{take_all}
 use Rattle.std.proofs.lemmas.List.FromFn.{get_or-range_with_len, length-range_with_len}
-use Rattle.menu_room.proofs.Names.{one_item}
-use Rattle.menu_room.specs.Ring.{marked, marked_from}
+use Rattle.room_keys.proofs.Names.{one_item}
+use Rattle.room_keys.specs.menu.Ring.{marked, marked_from}
 use Rattle.session_core.specs.Waiting.{item_of}
 use Rattle.work_sheet.specs.Seen.{of_worksheet}
 use Rattle.session_core.proofs.waiting.items_line.Goals as goal

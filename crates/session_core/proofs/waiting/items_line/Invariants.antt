@@ -1,7 +1,7 @@
 use Rattle.std.specs.Prelude.{◌≡◌, ◌≤◌, map, take}
 use Rattle.std.specs.List.{range_with_len}
 use Rattle.lics_text.specs.Limits.{MAX_LEN}
-use Rattle.menu_room.specs.Ring.{marked_from}
+use Rattle.room_keys.specs.menu.Ring.{marked_from}
 use Rattle.session_core.specs.Waiting.{item_of}
 use Rattle.work_sheet.specs.Seen.{of_worksheet}
 use Rattle.session_core.proofs.waiting.items_line.Given as goal

@@ -1,7 +1,7 @@
 use Rattle.std.proofs.Common.{◌≡◌, rules, ℕ, ◌<◌, List, [], get_or, set, Option, Some, None, ap, sym, ◌∙◌, arith}
 use Rattle.std.specs.Prelude.{option_copied, slice_get}
 use Rattle.std.proofs.lemmas.Option.{slice_get-get_or}
-use Rattle.control_panel.specs.declared.panel.Panel.{Panel}
+use Rattle.session_rooms.specs.declared.panel.Panel.{Panel}
 use Rattle.screen_layout.proofs.Painted.{line_at}
 use Rattle.screen_layout.specs.Screen.{screen_line}
 use Rattle.screen_layout.specs.Views.{viewed}

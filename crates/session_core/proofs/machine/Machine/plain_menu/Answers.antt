@@ -1,5 +1,5 @@
 use Rattle.std.proofs.Common.{◌≡◌, rules, false, sym, ◌∙◌}
-use Rattle.menu_room.specs.Room as menu
+use Rattle.room_keys.specs.menu.Room as menu
 use Rattle.session_core.specs.Machine.{sheet_of, State}
 use Rattle.session_core.specs.Pressing.{room_panel}
 use Rattle.session_core.specs.inner.Showing.{shows_waiting}

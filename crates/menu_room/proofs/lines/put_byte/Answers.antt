@@ -1,9 +1,0 @@
-use Rattle.std.proofs.Common.{◌≡◌, ◌≤◌, ℕ, List, length, subst, ◌∙◌}
-use Rattle.menu_room.proofs.Names.{byte_cut}
-use Rattle.menu_room.proofs.lines.put_byte.Goals as goal
-
-pub returns : goal.returns
-returns c =
-    c.put.ensures.list
-    ∙ byte_cut c.args.line.now c.args.byte
-    (subst (λ (l : List ℕ). length l ≤ 240) c.bytes.ensures.bytes c.bytes.ensures.length)

@@ -1,8 +1,0 @@
-use Rattle.std.proofs.Common.{codes}
-use Rattle.menu_room.proofs.Names.{two_parts}
-use Rattle.menu_room.proofs.lines.put_set_off.Goals as goal
-
-pub returns : goal.returns
-returns c =
-    two_parts 240 c.args.line.now (codes "  ") c.args.name.now c.put_cut.new.line c.put_cut-2.new.line c.put_cut.ensures
-    c.put_cut-2.ensures

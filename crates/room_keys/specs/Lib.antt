@@ -1,0 +1,5 @@
+pub mod menu
+pub mod pointing
+pub mod prompt
+pub mod ready
+pub mod typing
