@@ -1,3 +1,4 @@
 pub mod Keys
 pub mod NameMaps
 pub mod Named
+pub mod Written

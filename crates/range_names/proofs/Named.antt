@@ -4,7 +4,7 @@ use Rattle.std.proofs.Common.{◌≡◌, ◌≤◌, ◌+◌, ◌-◌, ℕ, zero,
 use Rattle.std.proofs.Common.{[], ◌∷◌, ◌++◌, length, map, refl, sym, ap, ◌∙◌, subst, arith, inl, inr}
 use Rattle.std.specs.Prelude.{◌==◌, nat_lt, not, get_or, position, replicate, T}
 use Rattle.std.specs.List.{prefix_len}
-use Rattle.std.specs.Ordering.{eq_by_cmp, is_eq, is_lt}
+use Rattle.std.specs.Ordering.{eq_by_cmp, is_eq, is_gt, is_lt, ordering_reverse}
 use Rattle.std.specs.declared.cmp.Ordering.{Ordering}
 use Rattle.std.specs.declared.cmp.Ordering.TheVariants.{Less, Equal, Greater}
 use Rattle.std.specs.FinMap.{empty, entries, entries_sorted, find, get, get-empty, get-entries, get-insert, get-remove}
@@ -12,7 +12,7 @@ use Rattle.std.specs.FinMap.{insert, is_sorted, remove}
 use Rattle.std.specs.FinMap.Entries.{below_all, find_tied}
 use Rattle.std.specs.Cmp.{tied_itself}
 use Rattle.std.specs.Cmp.Lexicographic.{nat_list_cmp_total}
-use Rattle.std.proofs.lemmas.Bool.{and_parts, cases_Bool}
+use Rattle.std.proofs.lemmas.Bool.{and_from, and_parts, cases_Bool, true≢false}
 use Rattle.std.proofs.lemmas.Bool.Decides.{nat_tests}
 use Rattle.std.proofs.lemmas.List.{length-map}
 use Rattle.std.proofs.lemmas.Option.{same_Some, none-some}
@@ -156,7 +156,7 @@ first_none x (e ∷ es) h =
     ap (λ c. cond c (Some e.1) (find name_cmp x es)) l.0 ∙ first_none x es l.1
 
 -- a span is told by its corners
-same_is : (s t : Extent) → same_extent s t ≡ true → s ≡ t
+pub same_is : (s t : Extent) → same_extent s t ≡ true → s ≡ t
 same_is s t h =
     let one : s.first.row ≡ t.first.row = grind (arith, nat_tests, h) in
     let two : s.first.col ≡ t.first.col = grind (arith, nat_tests, h) in
@@ -164,13 +164,25 @@ same_is s t h =
     let four : s.last.col ≡ t.last.col = grind (arith, nat_tests, h) in
     λ i. record { first = record { row = one i; col = two i }; last = record { row = three i; col = four i } }
 
-record IsEntry (es : List (List ℕ × Extent)) (span : Extent) (name : List ℕ) : Type 0 where
-  key : List ℕ
-  found : find name_cmp key es ≡ Some span
-  named : name_in key ≡ name
-  plain : is_plain name ≡ true
+other_key : (e : List ℕ × Extent) (es : List (List ℕ × Extent)) (span : Extent) (key : List ℕ)
+    → T (below_all name_cmp e.0 es) → find name_cmp key es ≡ Some span → find name_cmp key (e ∷ es) ≡ Some span
+other_key e es span key below found = elim (cases_Bool (eq_by_cmp name_cmp key e.0)) [
+  | inl same ↦
+      absurd (none-some _ (sym (first_none e.0 es below)
+      ∙ find_tied name_cmp nat_list_cmp_total key e.0 (equal_of (name_cmp key e.0) same) es
+      ∙ found))
+  | inr apart ↦ ap (λ c. cond c (Some e.1) (find name_cmp key es)) apart ∙ found
+]
 
-entry_of : (es : List (List ℕ × Extent)) (span : Extent) (name : List ℕ) → T (is_sorted name_cmp es)
+-- an entry of a span, whose name is this one and can be written
+pub record IsEntry (es : List (List ℕ × Extent)) (span : Extent) (name : List ℕ) : Type 0 where
+  pub key : List ℕ
+  pub found : find name_cmp key es ≡ Some span
+  pub named : name_in key ≡ name
+  pub plain : is_plain name ≡ true
+
+-- the name that is written for a span is that of an entry
+pub entry_of : (es : List (List ℕ × Extent)) (span : Extent) (name : List ℕ) → T (is_sorted name_cmp es)
     → named span es ≡ Some name → IsEntry es span name
 entry_of [] span name s h = absurd cc
 entry_of (e ∷ es) span name s h = elim (cases_Bool (same_extent e.1 span && is_plain (name_in e.0))) [
@@ -194,16 +206,80 @@ entry_of (e ∷ es) span name s h = elim (cases_Bool (same_extent e.1 span && is
         plain = more.plain;
       })
 ]
-  where
-    other_key : (e : List ℕ × Extent) (es : List (List ℕ × Extent)) (span : Extent) (key : List ℕ)
-        → T (below_all name_cmp e.0 es) → find name_cmp key es ≡ Some span → find name_cmp key (e ∷ es) ≡ Some span
-    other_key e es span key below found = elim (cases_Bool (eq_by_cmp name_cmp key e.0)) [
+
+extent_all : (s : Extent) → same_extent s s ≡ true
+extent_all s = grind (arith, nat_tests)
+
+-- a span has its own corners
+pub extent_itself : (s t : Extent) → s ≡ t → same_extent s t ≡ true
+extent_itself s t e = ap (same_extent s) (sym e) ∙ extent_all s
+
+below_found : (first : List ℕ) (es : List (List ℕ × Extent)) (key : List ℕ) (span : Extent)
+    → T (below_all name_cmp first es) → find name_cmp key es ≡ Some span → is_lt (name_cmp first key) ≡ true
+below_found first [] key span below found = absurd (none-some _ found)
+below_found first (e ∷ es) key span below found =
+    let order = both_parts (is_lt (name_cmp first e.0)) (below_all name_cmp first es) below in
+    elim (cases_Bool (eq_by_cmp name_cmp key e.0)) [
       | inl same ↦
-          absurd (none-some _ (sym (first_none e.0 es below)
-          ∙ find_tied name_cmp nat_list_cmp_total key e.0 (equal_of (name_cmp key e.0) same) es
-          ∙ found))
-      | inr apart ↦ ap (λ c. cond c (Some e.1) (find name_cmp key es)) apart ∙ found
+          ap (λ k. is_lt (name_cmp first k)) (names_exact key e.0 (equal_of (name_cmp key e.0) same))
+          ∙ holds (is_lt (name_cmp first e.0)) order.0
+      | inr apart ↦
+          below_found first es key span order.1
+          (sym (ap (λ c. cond c (Some e.1) (find name_cmp key es)) apart) ∙ found)
     ]
+  where
+    holds : (b : Bool) → T b → b ≡ true
+    holds true h = refl
+    holds false h = absurd h
+
+-- a name of a span that can be written, and before which no such name comes, is the one that is written
+pub named_least : (es : List (List ℕ × Extent)) (span : Extent) (key : List ℕ) → T (is_sorted name_cmp es)
+    → find name_cmp key es ≡ Some span → is_plain (name_in key) ≡ true
+    → ((other : List ℕ) → find name_cmp other es ≡ Some span → is_plain (name_in other) ≡ true
+    → is_gt (name_cmp key other) ≡ false) → named span es ≡ Some (name_in key)
+named_least [] span key s found plain least = absurd (none-some _ found)
+named_least (e ∷ es) span key s found plain least =
+    let order = both_parts (below_all name_cmp e.0 es) (is_sorted name_cmp es) s in
+    elim (cases_Bool (eq_by_cmp name_cmp key e.0)) [
+      | inl same ↦
+          (let is : key ≡ e.0 = names_exact key e.0 (equal_of (name_cmp key e.0) same) in
+          let value : e.1 ≡ span =
+          same_Some _ _ (sym (ap (λ c. cond c (Some e.1) (find name_cmp key es)) same) ∙ found) in
+          let test : (same_extent e.1 span && is_plain (name_in e.0)) ≡ true =
+          and_from _ _ (extent_itself e.1 span value) (ap (λ k. is_plain (name_in k)) (sym is) ∙ plain) in
+          ap (λ c. cond c (Some (name_in e.0)) (named span es)) test ∙ ap (λ k. Some (name_in k)) (sym is))
+      | inr apart ↦
+          (let later : find name_cmp key es ≡ Some span =
+          sym (ap (λ c. cond c (Some e.1) (find name_cmp key es)) apart) ∙ found in
+          let test : (same_extent e.1 span && is_plain (name_in e.0)) ≡ false =
+          first_is_other e es span key order.0 later least in
+          ap (λ c. cond c (Some (name_in e.0)) (named span es)) test
+          ∙ named_least es span key order.1 later plain
+          (λ other f p. least other (other_key e es span other order.0 f) p))
+    ]
+  where
+    behind : (o p : Ordering) → p ≡ ordering_reverse o → is_lt o ≡ true → is_gt p ≡ true
+    behind Less p e h = ap is_gt e
+    behind Equal p e h = absurd (true≢false (sym h))
+    behind Greater p e h = absurd (true≢false (sym h))
+
+    first_is_other : (e : List ℕ × Extent) (es : List (List ℕ × Extent)) (span : Extent) (key : List ℕ)
+        → T (below_all name_cmp e.0 es) → find name_cmp key es ≡ Some span
+        → ((other : List ℕ) → find name_cmp other (e ∷ es) ≡ Some span → is_plain (name_in other) ≡ true
+        → is_gt (name_cmp key other) ≡ false) → (same_extent e.1 span && is_plain (name_in e.0)) ≡ false
+    first_is_other e es span key below later least =
+        elim (cases_Bool (same_extent e.1 span && is_plain (name_in e.0))) [
+          | inl t ↦
+              (let parts = and_parts _ _ t in
+              let here : find name_cmp e.0 (e ∷ es) ≡ Some span =
+              ap (λ c. cond c (Some e.1) (find name_cmp e.0 es)) (ap is_eq (tied_itself nat_list_cmp_total e.0))
+              ∙ ap (λ x. Some x) (same_is e.1 span parts.0) in
+              let past : is_gt (name_cmp key e.0) ≡ true =
+              behind (name_cmp e.0 key) (name_cmp key e.0) (nat_list_cmp_total.antisymm key e.0)
+              (below_found e.0 es key span below later) in
+              absurd (true≢false (sym past ∙ least e.0 here parts.1)))
+          | inr f ↦ f
+        ]
 
 -- a name that is written for a span finds it
 pub record Finds (names : NameMap) (span : Extent) (name : List ℕ) : Type 0 where

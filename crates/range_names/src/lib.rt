@@ -4,6 +4,7 @@
 mod fault;
 mod key;
 mod names;
+mod spots;
 mod words;
 
 pub use fault::NameFault;

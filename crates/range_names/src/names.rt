@@ -3,12 +3,12 @@ ghost use Rattle.std.specs.Prelude.{◌≡◌, ◌≤◌, ◌⊎◌, length, OnO
 ghost use Rattle.std.specs.FinMap as namemap;
 ghost use Rattle.std.specs.BTreeMap.{IsOrdered};
 ghost use Rattle.std.specs.Ordering.{is_gt};
-ghost use Rattle.range_names.specs.Names.{fault_of, key_of, name_cmp, name_of_span, named, next_after, next_name, same_extent, AreKeys};
+ghost use Rattle.range_names.specs.Names.{fault_of, key_of, name_cmp, name_of_span, next_after, next_name, AreKeys};
 ghost use Rattle.range_names.specs.declared.fault.NameFault.TheVariants as cause;
 
 use crate::NameFault;
 use crate::key::{checked_key, key_of, name_in};
-use crate::words::is_plain;
+use crate::spots::{copied_spots, first_at, put_spot, spot_of, take_other, take_spot};
 use grid_address::Span;
 use lics_text::Memory;
 use std::alloc::Global;
@@ -20,6 +20,7 @@ use std::marker::Model;
 #[derive(Drop)]
 pub struct Names {
     map: BTreeMap<[u8; 15], Span>,
+    spots: BTreeMap<[u16; 19], [u8; 15]>,
 }
 
 impl Model for Names {
@@ -34,8 +35,10 @@ impl Model for Names {
     ghost view = { λ n. namemap.from_entries n.map.entries };
 
     ghost use Rattle.range_names.specs.Names.{AreKeys};
+    ghost use Rattle.range_names.specs.inner.Spots.{AreSpots};
 
-    ghost invariant = { λ n. AreKeys (namemap.from_entries n.map.entries) };
+    ghost invariant = { λ n. AreKeys (namemap.from_entries n.map.entries)
+        × AreSpots n.spots.entries (namemap.from_entries n.map.entries) };
 }
 
 impl Names {
@@ -45,6 +48,7 @@ impl Names {
     {
         Names {
             map: BTreeMap::new(alloc),
+            spots: BTreeMap::new(alloc),
         }
     }
 
@@ -57,9 +61,18 @@ impl Names {
         ensures err { IfErr result (λ fault. (fault ≡ cause.Memory) ⊎ (fault_of name.now ≡ Some fault)) }
     {
         let key = checked_key(name)?;
+        if put_spot(&mut self.spots, span, key).is_err() {
+            return Err(NameFault::Memory);
+        }
         match self.map.insert(key, span) {
-            Ok(_) => Ok(()),
-            Err(_) => Err(NameFault::Memory),
+            Ok(before) => {
+                take_other(&mut self.spots, before, span, key);
+                Ok(())
+            }
+            Err(_) => {
+                take_spot(&mut self.spots, span, key);
+                Err(NameFault::Memory)
+            }
         }
     }
 
@@ -73,7 +86,10 @@ impl Names {
     {
         let key = checked_key(name)?;
         match self.map.remove(&key) {
-            Some(_) => Ok(()),
+            Some(span) => {
+                take_spot(&mut self.spots, span, key);
+                Ok(())
+            }
             None => Err(NameFault::Absent),
         }
     }
@@ -102,7 +118,10 @@ impl Names {
         ensures some { IfSome result (λ name. name_of_span self.now span ≡ Some name.now) }
         ensures none { IfNone result (name_of_span self.now span ≡ None) }
     {
-        first_named(&self.map, span)
+        match first_at(&self.spots, spot_of(span, &[0; 15])) {
+            Some(key) => Some(name_in(key)),
+            None => None,
+        }
     }
 
     /// The first name behind another, in byte order; the first of all behind no bytes.
@@ -125,31 +144,17 @@ impl Names {
     pub fn copy(&self) -> Result<Names, Memory>
         ensures { IfOk result (λ names. names ≡ self.now) }
     {
-        let map = self.map.clone()?;
-        Ok(Names { map })
+        let map = copied(&self.map)?;
+        let spots = copied_spots(&self.spots)?;
+        Ok(Names { map, spots })
     }
 }
 
-// Whether two spans have the same corners.
-fn is_same(a: &Span, b: Span) -> bool
-    ensures { result ≡ same_extent a.now b }
+// Equal entries.
+fn copied(map: &BTreeMap<[u8; 15], Span>) -> Result<BTreeMap<[u8; 15], Span>, Memory>
+    ensures { IfOk result (λ copy. copy.entries ≡ map.now.entries) }
 {
-    *a == b
-}
-
-// The first plain name of a span.
-fn first_named(map: &BTreeMap<[u8; 15], Span>, span: Span) -> Option<&[u8]>
-    ensures some { IfSome result (λ name. named span map.now.entries ≡ Some name.now) }
-    ensures none { IfNone result (named span map.now.entries ≡ None) }
-    ensures ordered { IsOrdered name_cmp map.now }
-{
-    for (key, named) in map.iter() {
-        let name = name_in(key);
-        if is_same(named, span) && is_plain(name) {
-            return Some(name);
-        }
-    }
-    None
+    Ok(map.clone()?)
 }
 
 // The first name behind a key.
