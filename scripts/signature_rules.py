@@ -5,14 +5,10 @@ import re
 MOST_PARAMETERS = 6
 # The functions that aren't held to this yet, by crate; sheet_run's `run` keeps its signature.
 UNMENDED = {
-    "commands_data": "extract_into",
     "commands_file": "act_named",
     "commands_range": "push_value",
     "data_blocks": "try_row try_cell try_rows",
-    "data_query": "push_records extracted_cells fields_extracted extract records_of",
-    "formula_parts": "chosen listed_value call_value binary_value",
     "macro_text": "word_outcome",
-    "record_match": "row_holds items_of_records over_column by_column",
     "sheet_run": "run",
 }
 HEAD = re.compile(r"^ *(?:pub(?:\([a-z]+\))? )?(?:(?:const|unsafe|ghost) )*fn (\w+)", re.MULTILINE)

@@ -7,43 +7,39 @@ ghost use Rattle.commands_data.specs.Kept.{if_finished};
 
 use crate::faults::make_query;
 use command_desk::{CommandEnd, Desk, DeskRanges, LastQuery};
+use data_query::{Extraction, Query};
 use desk_errors::CommandError;
 use formula_eval::Tally;
 use formula_parts::Scene;
-use grid_address::Span;
 use lics_text::Memory;
 use work_sheet::Worksheet;
 
 // The records that match, or those of them that differ, are written into the output.
 fn extract_into(
-    unique: bool,
-    input: Span,
-    criterion: Span,
-    output: Span,
+    extraction: &Extraction,
     sheet: &mut Worksheet,
     scene: &Scene,
     tally: &mut Tally,
 ) -> Result<CommandEnd, Memory>
-    ensures { IfOk result (λ end. HasActedBy (extracted_into unique input criterion output scene.entry.now)
-        end sheet.old sheet.new tally.old.count tally.new.count) }
+    ensures { let query = extraction.now.query in let output = extraction.now.output in
+        let acts = extracted_into extraction.now.unique query.input query.criterion output scene.entry.now in
+        IfOk result (λ end. HasActedBy acts end sheet.old sheet.new tally.old.count tally.new.count) }
 {
-    let alloc = sheet.alloc();
-    let answer = data_query::extract(alloc, input, criterion, output, unique, sheet, scene);
+    let answer = data_query::extract(sheet.alloc(), extraction, sheet, scene);
     make_query(answer, sheet, scene, tally)
 }
 
 // The records that match are taken out of the input.
 fn delete_from(
-    input: Span,
-    criterion: Span,
+    query: &Query,
     sheet: &mut Worksheet,
     scene: &Scene,
     tally: &mut Tally,
 ) -> Result<CommandEnd, Memory>
-    ensures { IfOk result (λ end. HasActedBy (deleted_from input criterion scene.entry.now)
+    ensures { IfOk result (λ end. HasActedBy (deleted_from query.now.input query.now.criterion scene.entry.now)
         end sheet.old sheet.new tally.old.count tally.new.count) }
 {
-    let answer = data_query::deletion(sheet.alloc(), input, criterion, sheet, scene);
+    let answer = data_query::deletion(sheet.alloc(), query, sheet, scene);
     make_query(answer, sheet, scene, tally)
 }
 
@@ -60,7 +56,13 @@ fn extract(
 {
     match (ranges.input, ranges.criterion, ranges.output) {
         (Some(input), Some(criterion), Some(output)) => {
-            extract_into(unique, input, criterion, output, sheet, scene, tally)
+            let query = Query { input, criterion };
+            let extraction = Extraction {
+                query,
+                output,
+                unique,
+            };
+            extract_into(&extraction, sheet, scene, tally)
         }
         _ => Ok(CommandEnd::Refused(CommandError::QueryRangeMissing)),
     }
@@ -77,7 +79,9 @@ fn delete(
         IfOk result (λ end. HasActedBy acts end sheet.old sheet.new tally.old.count tally.new.count) }
 {
     match (ranges.input, ranges.criterion) {
-        (Some(input), Some(criterion)) => delete_from(input, criterion, sheet, scene, tally),
+        (Some(input), Some(criterion)) => {
+            delete_from(&Query { input, criterion }, sheet, scene, tally)
+        }
         _ => Ok(CommandEnd::Refused(CommandError::QueryRangeMissing)),
     }
 }

@@ -16,7 +16,7 @@ use Rattle.data_query.proofs.Records.{cells_fit, row_of, rows_back}
 module _ (w : Outlook) (input criterion : Extent) where
   -- there are no more cells than the sheet has rows behind its first
   pub few_cells : (cells : List Place) → cells ≡ map (λ row. at row input.first.col) (chosen w input criterion)
-      → input.last.row ≤ last_row → length cells ≤ last_row
+      → input.last.row - input.first.row ≤ last_row → length cells ≤ last_row
   few_cells cells are inside =
       let few : length cells ≤ input.last.row - input.first.row =
       cells_fit input.first.col input.first.row input.last.row (record_matches w input criterion) cells are in
@@ -50,8 +50,8 @@ module _ (w : Outlook) (input criterion : Extent) where
   -- there are at most as many as a sheet has rows below its first
   pub few_kept : (fields : List OutputField) (kept slice cells : List Place)
       → map row_of kept ≡ without_repeats (same_record w.sight fields) (map row_of slice) → slice ≡ cells →
-      cells ≡ map (λ row. at row input.first.col) (chosen w input criterion) → input.last.row ≤ last_row
-      → length kept ≤ last_row
+      cells ≡ map (λ row. at row input.first.col) (chosen w input criterion)
+      → input.last.row - input.first.row ≤ last_row → length kept ≤ last_row
   few_kept fields kept slice cells differ same are inside =
       let all : length cells ≤ last_row = few_cells cells are inside in
       let less : length (without_repeats (same_record w.sight fields) (map row_of slice)) ≤ length (map row_of slice) =

@@ -14,6 +14,7 @@ use block_writes::rows_copied;
 use formula_parts::{Look, Scene};
 use grid_address::{Cell, CellList, Span, count_below, row_below};
 use lics_text::Memory;
+use record_match::Query;
 use sheet_store::Writes;
 use std::alloc::Global;
 
@@ -52,19 +53,13 @@ fn moved_up<K: Look>(
 }
 
 // What deleting the records that match writes, where the input names its fields.
-fn deleted<K: Look>(
-    alloc: Global,
-    input: Span,
-    criterion: Span,
-    look: &K,
-    scene: &Scene,
-) -> Result<Writes, Memory>
-    requires { input.first.row < input.last.row }
+fn deleted<K: Look>(alloc: Global, query: &Query, look: &K, scene: &Scene) -> Result<Writes, Memory>
+    requires { query.now.input.first.row < query.now.input.last.row }
     ensures { let w = outlook_of (K.sight look.now) scene.entry.now in
-        IfOk result (λ l. l ≡ moved_up w.sight input (kept w input criterion)) }
+        IfOk result (λ l. l ≡ moved_up w.sight query.now.input (kept w query.now.input query.now.criterion)) }
 {
-    let kept = records(alloc, look, scene, input, criterion, false)?;
-    let writes = moved_up(alloc, look, input, &kept)?;
+    let kept = records(alloc, look, scene, query, false)?;
+    let writes = moved_up(alloc, look, query.input, &kept)?;
     Ok(writes)
 }
 
@@ -74,18 +69,17 @@ fn deleted<K: Look>(
 /// are written is this project's own choice.)
 pub fn deletion<K: Look>(
     alloc: Global,
-    input: Span,
-    criterion: Span,
+    query: &Query,
     look: &K,
     scene: &Scene,
 ) -> Result<Writes, QueryFault>
     ensures found { let w = outlook_of (K.sight look.now) scene.entry.now in
-        IfOk result (λ l. deletion w input criterion ≡ Ok l) }
+        IfOk result (λ l. deletion w query.now.input query.now.criterion ≡ Ok l) }
     ensures fault { let w = outlook_of (K.sight look.now) scene.entry.now in
-        IfErr result (λ f. (f ≡ QueryFault.Memory) ⊎ (deletion w input criterion ≡ Err f)) }
+        IfErr result (λ f. (f ≡ QueryFault.Memory) ⊎ (deletion w query.now.input query.now.criterion ≡ Err f)) }
 {
-    asked(look, input, criterion)?;
-    match deleted(alloc, input, criterion, look, scene) {
+    asked(look, query)?;
+    match deleted(alloc, query, look, scene) {
         Ok(writes) => Ok(writes),
         Err(Memory) => Err(QueryFault::Memory),
     }

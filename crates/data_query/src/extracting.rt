@@ -5,17 +5,19 @@ ghost use Rattle.grid_address.specs.Lines.{last_row};
 ghost use Rattle.formula_parts.specs.Outlook.{Sight};
 ghost use Rattle.formula_parts.specs.Scenes.{outlook_of};
 ghost use Rattle.block_writes.specs.Writing.{at, numbers_from, value_copied};
-ghost use Rattle.data_query.specs.Extraction.{extracted_rows, extraction, fields_extracted, output_written, record_written, records_written, room_of, rows_extracted};
+ghost use Rattle.data_query.specs.Extraction as spec;
+ghost use Rattle.data_query.specs.Extraction.{output_written, record_written, records_written, room_of, rows_extracted};
 
 use crate::QueryFault;
 use crate::erasing::push_rows_erased;
+use crate::extraction::Extraction;
 use crate::missing::asked;
 use crate::output::{OutputField, labelled, room_of, taken_fields};
 use crate::repeats::without_repeats;
 use crate::selecting::chosen;
 use block_writes::value_copied;
 use formula_parts::{Look, Scene};
-use grid_address::{Cell, CellList, Span, row_below};
+use grid_address::{Cell, CellList, Span, count_below, row_below};
 use lics_text::Memory;
 use sheet_store::Writes;
 use std::alloc::Global;
@@ -64,21 +66,23 @@ fn push_record<K: Look>(
     Ok(())
 }
 
-// Adds records, each given by a cell, for the rows from one on, of which there are so many.
+// Adds records, each given by a cell, for the rows of the output below its first.
 fn push_records<K: Look>(
     writes: &mut Writes,
     alloc: Global,
     look: &K,
-    first: u16,
-    room: u16,
+    output: Span,
     fields: &[OutputField],
     cells: &[Cell],
 ) -> Result<(), Memory>
-    requires room { length cells.now ≤ room }
-    requires fits { first + room ≤ last_row + 1 }
-    ensures { let rows = map (λ (p : Place). p.row) cells.now in let tos = numbers_from first room in
+    requires { length cells.now ≤ room_of output }
+    ensures { let rows = map (λ (p : Place). p.row) cells.now in
+        let tos = numbers_from (output.first.row + 1) (room_of output) in
         OnOk result (writes.new ≡ writes.old ++ records_written (K.sight look.now) fields.now rows tos) }
 {
+    // The room is asked for its clause that its rows lie in the sheet.
+    let _room = room_of(output);
+    let first = row_below(output, 0);
     for place in 0..cells.len() {
         let to = first + place as u16;
         push_record(writes, alloc, look, fields, cells[place], to)?;
@@ -102,7 +106,7 @@ fn output_written<K: Look>(
     let first = row_below(output, 0);
     let room = room_of(output);
     push_rows_erased(&mut writes, output, first, room)?;
-    push_records(&mut writes, alloc, look, first, room, fields, cells)?;
+    push_records(&mut writes, alloc, look, output, fields, cells)?;
     Ok(writes)
 }
 
@@ -134,19 +138,20 @@ fn rows_extracted<K: Look>(
 // The records that are extracted: all that match, or those of them that differ in the fields that the output takes.
 fn extracted_cells<K: Look>(
     alloc: Global,
-    input: Span,
-    criterion: Span,
-    unique: bool,
+    extraction: &Extraction,
     fields: &[OutputField],
     look: &K,
     scene: &Scene,
 ) -> Result<CellList, Memory>
     ensures rows { let w = outlook_of (K.sight look.now) scene.entry.now in
-        IfOk result (λ l. map (λ (p : Place). p.row) l ≡ extracted_rows w input criterion unique fields.now) }
+        let query = extraction.now.query in let unique = extraction.now.unique in IfOk result (λ l.
+        map (λ (p : Place). p.row) l ≡ spec.extracted_rows w query.input query.criterion unique fields.now) }
     ensures count { IfOk result (λ l. length l ≤ last_row) }
 {
-    let cells = chosen(alloc, input, criterion, look, scene)?;
-    if unique {
+    // The records are counted for the clause that a sheet has no more rows.
+    let _count = count_below(extraction.query.input);
+    let cells = chosen(alloc, &extraction.query, look, scene)?;
+    if extraction.unique {
         let kept = without_repeats(alloc, look, fields, cells.as_slice())?;
         Ok(kept)
     } else {
@@ -157,21 +162,20 @@ fn extracted_cells<K: Look>(
 // What the records that match write, where the output takes these fields.
 fn fields_extracted<K: Look>(
     alloc: Global,
-    input: Span,
-    criterion: Span,
-    output: Span,
-    unique: bool,
+    extraction: &Extraction,
     fields: &[OutputField],
     look: &K,
     scene: &Scene,
 ) -> Result<Writes, QueryFault>
-    ensures found { let w = outlook_of (K.sight look.now) scene.entry.now in
-        IfOk result (λ l. fields_extracted w input criterion output unique fields.now ≡ Ok l) }
-    ensures fault { let w = outlook_of (K.sight look.now) scene.entry.now in IfErr result (λ f.
-        (f ≡ QueryFault.Memory) ⊎ (fields_extracted w input criterion output unique fields.now ≡ Err f)) }
+    ensures found { let w = outlook_of (K.sight look.now) scene.entry.now in let given = extraction.now in
+        let made = spec.fields_extracted w given.query.input given.query.criterion given.output given.unique in
+        IfOk result (λ l. made fields.now ≡ Ok l) }
+    ensures fault { let w = outlook_of (K.sight look.now) scene.entry.now in let given = extraction.now in
+        let made = spec.fields_extracted w given.query.input given.query.criterion given.output given.unique in
+        IfErr result (λ f. (f ≡ QueryFault.Memory) ⊎ (made fields.now ≡ Err f)) }
 {
-    match extracted_cells(alloc, input, criterion, unique, fields, look, scene) {
-        Ok(cells) => rows_extracted(alloc, look, output, fields, cells.as_slice()),
+    match extracted_cells(alloc, extraction, fields, look, scene) {
+        Ok(cells) => rows_extracted(alloc, look, extraction.output, fields, cells.as_slice()),
         Err(Memory) => Err(QueryFault::Memory),
     }
 }
@@ -186,31 +190,22 @@ fn fields_extracted<K: Look>(
 /// what headers that are no labels do, are this project's own choice.)
 pub fn extract<K: Look>(
     alloc: Global,
-    input: Span,
-    criterion: Span,
-    output: Span,
-    unique: bool,
+    extraction: &Extraction,
     look: &K,
     scene: &Scene,
 ) -> Result<Writes, QueryFault>
-    ensures found { let w = outlook_of (K.sight look.now) scene.entry.now in
-        IfOk result (λ l. extraction w input criterion output unique ≡ Ok l) }
-    ensures fault { let w = outlook_of (K.sight look.now) scene.entry.now in
-        IfErr result (λ f. (f ≡ QueryFault.Memory) ⊎ (extraction w input criterion output unique ≡ Err f)) }
+    ensures found { let w = outlook_of (K.sight look.now) scene.entry.now in let given = extraction.now in
+        let made = spec.extraction w given.query.input given.query.criterion given.output given.unique in
+        IfOk result (λ l. made ≡ Ok l) }
+    ensures fault { let w = outlook_of (K.sight look.now) scene.entry.now in let given = extraction.now in
+        let made = spec.extraction w given.query.input given.query.criterion given.output given.unique in
+        IfErr result (λ f. (f ≡ QueryFault.Memory) ⊎ (made ≡ Err f)) }
 {
-    asked(look, input, criterion)?;
-    labelled(look, input, output)?;
-    match taken_fields(alloc, look, input, output) {
-        Ok(fields) => fields_extracted(
-            alloc,
-            input,
-            criterion,
-            output,
-            unique,
-            fields.as_slice(),
-            look,
-            scene,
-        ),
+    let input = extraction.query.input;
+    asked(look, &extraction.query)?;
+    labelled(look, input, extraction.output)?;
+    match taken_fields(alloc, look, input, extraction.output) {
+        Ok(fields) => fields_extracted(alloc, extraction, fields.as_slice(), look, scene),
         Err(Memory) => Err(QueryFault::Memory),
     }
 }

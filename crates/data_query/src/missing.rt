@@ -5,19 +5,19 @@ ghost use Rattle.data_query.specs.Selection.{asked};
 
 use crate::QueryFault;
 use formula_parts::Look;
-use grid_address::{Cell, Span};
-use record_match::{has_fields, missing};
+use grid_address::Cell;
+use record_match::{Query, has_fields, missing};
 
 /// Why a query is refused before its records are looked at.
-pub fn asked<K: Look>(look: &K, input: Span, criterion: Span) -> Result<(), QueryFault>
-    ensures { result ≡ asked (K.sight look.now) input criterion tt }
+pub fn asked<K: Look>(look: &K, query: &Query) -> Result<(), QueryFault>
+    ensures { result ≡ asked (K.sight look.now) query.now.input query.now.criterion tt }
 {
-    if !has_fields(look, input) {
+    if !has_fields(look, query.input) {
         return Err(QueryFault::NoFieldRow);
     }
-    match missing(look, input, criterion) {
+    match missing(look, query.input, query.criterion) {
         Some(col) => Err(QueryFault::FieldAbsent(Cell {
-            row: criterion.first.row,
+            row: query.criterion.first.row,
             col,
         })),
         None => Ok(()),

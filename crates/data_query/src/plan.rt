@@ -7,9 +7,9 @@ ghost use Rattle.formula_parts.specs.Scenes.{outlook_of};
 ghost use Rattle.data_query.specs.inner.Plans.{is_wanted, records};
 
 use formula_parts::{Look, Scene};
-use grid_address::{CellList, Span, cell_below, count_below, row_below};
+use grid_address::{CellList, cell_below, count_below, row_below};
 use lics_text::Memory;
-use record_match::{fields_of, record_matches};
+use record_match::{Query, fields_of, record_matches};
 use std::alloc::Global;
 
 // Whether the records that match are wanted, or the others.
@@ -24,21 +24,21 @@ fn records_of<K: Look>(
     alloc: Global,
     look: &K,
     scene: &Scene,
-    input: Span,
-    criterion: Span,
+    query: &Query,
     fields: &[Option<u8>],
     wanted: bool,
 ) -> Result<CellList, Memory>
-    requires { fields.now ≡ fields_of (K.sight look.now) input criterion }
+    requires { fields.now ≡ fields_of (K.sight look.now) query.now.input query.now.criterion }
     ensures { let w = outlook_of (K.sight look.now) scene.entry.now in
-        IfOk result (λ l. l ≡ map (λ row. at row input.first.col) (records w input criterion wanted)) }
+        IfOk result (λ l. l ≡ map (λ row. at row query.now.input.first.col)
+        (records w query.now.input query.now.criterion wanted)) }
 {
     let mut cells = CellList::new(alloc);
-    for place in 0..count_below(input) {
-        let row = row_below(input, place);
-        let matches = record_matches(look, scene, input, criterion, fields, row)?;
+    for place in 0..count_below(query.input) {
+        let row = row_below(query.input, place);
+        let matches = record_matches(look, scene, query, fields, row)?;
         if is_wanted(wanted, matches) {
-            cells.push(cell_below(input, place))?;
+            cells.push(cell_below(query.input, place))?;
         }
     }
     Ok(cells)
@@ -49,22 +49,14 @@ pub fn records<K: Look>(
     alloc: Global,
     look: &K,
     scene: &Scene,
-    input: Span,
-    criterion: Span,
+    query: &Query,
     wanted: bool,
 ) -> Result<CellList, Memory>
     ensures { let w = outlook_of (K.sight look.now) scene.entry.now in
-        IfOk result (λ l. l ≡ map (λ row. at row input.first.col) (records w input criterion wanted)) }
+        IfOk result (λ l. l ≡ map (λ row. at row query.now.input.first.col)
+        (records w query.now.input query.now.criterion wanted)) }
 {
-    let fields = fields_of(alloc, look, input, criterion)?;
-    let cells = records_of(
-        alloc,
-        look,
-        scene,
-        input,
-        criterion,
-        fields.as_slice(),
-        wanted,
-    )?;
+    let fields = fields_of(alloc, look, query.input, query.criterion)?;
+    let cells = records_of(alloc, look, scene, query, fields.as_slice(), wanted)?;
     Ok(cells)
 }

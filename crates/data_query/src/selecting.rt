@@ -9,22 +9,23 @@ use crate::QueryFault;
 use crate::missing::asked;
 use crate::plan::records;
 use formula_parts::{Look, Scene};
-use grid_address::{CellList, Span};
+use grid_address::CellList;
 use lics_text::Memory;
+use record_match::Query;
 use std::alloc::Global;
 
 /// The first cells of the records that match a criterion.
 pub fn chosen<K: Look>(
     alloc: Global,
-    input: Span,
-    criterion: Span,
+    query: &Query,
     look: &K,
     scene: &Scene,
 ) -> Result<CellList, Memory>
     ensures { let w = outlook_of (K.sight look.now) scene.entry.now in
-        IfOk result (λ l. l ≡ map (λ row. at row input.first.col) (chosen w input criterion)) }
+        IfOk result (λ l. l ≡ map (λ row. at row query.now.input.first.col)
+        (chosen w query.now.input query.now.criterion)) }
 {
-    let cells = records(alloc, look, scene, input, criterion, true)?;
+    let cells = records(alloc, look, scene, query, true)?;
     Ok(cells)
 }
 
@@ -34,18 +35,17 @@ pub fn chosen<K: Look>(
 /// manual; the order of the faults is this project's own choice.)
 pub fn select<K: Look>(
     alloc: Global,
-    input: Span,
-    criterion: Span,
+    query: &Query,
     look: &K,
     scene: &Scene,
 ) -> Result<CellList, QueryFault>
     ensures found { let w = outlook_of (K.sight look.now) scene.entry.now in
-        IfOk result (λ l. selection w input criterion ≡ Ok l) }
+        IfOk result (λ l. selection w query.now.input query.now.criterion ≡ Ok l) }
     ensures fault { let w = outlook_of (K.sight look.now) scene.entry.now in
-        IfErr result (λ f. (f ≡ QueryFault.Memory) ⊎ (selection w input criterion ≡ Err f)) }
+        IfErr result (λ f. (f ≡ QueryFault.Memory) ⊎ (selection w query.now.input query.now.criterion ≡ Err f)) }
 {
-    asked(look, input, criterion)?;
-    match chosen(alloc, input, criterion, look, scene) {
+    asked(look, query)?;
+    match chosen(alloc, query, look, scene) {
         Ok(cells) => Ok(cells),
         Err(Memory) => Err(QueryFault::Memory),
     }

@@ -5,8 +5,9 @@ ghost use Rattle.formula_eval.specs.Mean.{mean};
 ghost use Rattle.formula_parts.specs.Parts.{filled_in};
 ghost use Rattle.formula_parts.specs.Outlook.{Sight};
 ghost use Rattle.formula_parts.specs.Scenes.{outlook_of};
+ghost use Rattle.formula_parts.specs.Standpoints.{outlook_from};
 
-use formula_parts::{Kept, Look, Scene, composed, filled_in, number_of, value_of};
+use formula_parts::{Kept, Look, Scene, Standpoint, composed, filled_in, number_of, value_of};
 use formula_tree::{Formula, Value};
 use grid_address::Cell;
 use lics_text::Memory;
@@ -44,22 +45,23 @@ pub fn glance<K: Look>(
 ) -> Result<Value, Memory>
     ensures { IfOk result (λ v. v ≡ mean formula.now at (outlook_of (K.sight look.now) scene.entry.now)) }
 {
-    let value = composed(formula.alloc(), &Recorded, formula.expr(), at, look, scene)?;
+    let from = Standpoint {
+        alloc: formula.alloc(),
+        at,
+        look,
+        scene,
+    };
+    let value = composed(&from, &Recorded, formula.expr())?;
     Ok(filled_in(value))
 }
 
 // The value of a formula that may not be made of numbers alone. A call of its own, since it takes much of the stack.
 #[inline(never)]
 #[tactic(auto, unfolding(crate::specs::Mean::mean))]
-fn other_value<K: Look>(
-    formula: &Formula,
-    at: Cell,
-    look: &K,
-    scene: &Scene,
-) -> Result<Value, Memory>
-    ensures { IfOk result (λ v. v ≡ mean formula.now at (outlook_of (K.sight look.now) scene.entry.now)) }
+fn other_value<K: Look>(formula: &Formula, from: &Standpoint<'_, K>) -> Result<Value, Memory>
+    ensures { IfOk result (λ v. v ≡ mean formula.now from.now.at (outlook_from K.Look from.now)) }
 {
-    let value = value_of(formula.alloc(), &Recorded, formula.expr(), at, look, scene)?;
+    let value = value_of(from, &Recorded, formula.expr())?;
     Ok(filled_in(value))
 }
 
@@ -83,6 +85,14 @@ pub fn evaluate<K: Look>(
     tally.count = tally.count.saturating_add(1);
     match number_of(formula.expr(), at, look, kept) {
         Some(number) => Ok(Value::Num(number)),
-        None => other_value(formula, at, look, scene),
+        None => {
+            let from = Standpoint {
+                alloc: formula.alloc(),
+                at,
+                look,
+                scene,
+            };
+            other_value(formula, &from)
+        }
     }
 }

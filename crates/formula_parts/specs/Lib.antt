@@ -5,4 +5,5 @@ pub mod Lookups
 pub mod Outlook
 pub mod Parts
 pub mod Scenes
+pub mod Standpoints
 pub mod inner

@@ -3,18 +3,17 @@ ghost use Rattle.std.specs.Prelude.{◌≡◌, IfOk};
 ghost use Rattle.at_functions.specs.Numbers.{count_of};
 ghost use Rattle.formula_parts.specs.Calls.{behind_first, called, choice, one_value, place_for, three_value, two_value};
 ghost use Rattle.formula_parts.specs.Lookups.{extent_value, on_range, range_of};
-ghost use Rattle.formula_parts.specs.Outlook.{Sight};
-ghost use Rattle.formula_parts.specs.Scenes.{outlook_of};
+ghost use Rattle.formula_parts.specs.Standpoints.{outlook_from};
 
 use crate::argument::Argument;
 use crate::attributes::{cell_value, told_value};
-use crate::look::{Look, Scene};
+use crate::look::Look;
 use crate::lookups::{extent_value, index_value, lookup_value, pointed_value, range_of};
+use crate::standpoint::Standpoint;
 use at_functions::whole;
 use fixed_value::Fixed;
 use formula_tree::{Function, Value};
 use lics_text::Memory;
-use std::alloc::Global;
 use value_functions::{
     changed, char_value, constant_value, cut_value, exact_value, find_value, is_zero, mid_value,
     number_in, of_number, of_numbers, of_parts, of_text, replace_value, stop_one, string_value,
@@ -33,13 +32,11 @@ fn extent_of(function: Function, argument: &Argument) -> Value
 
 // A function of one argument.
 fn one_value<K: Look>(
-    alloc: Global,
+    from: &Standpoint<'_, K>,
     function: Function,
     a: &Argument,
-    look: &K,
-    scene: &Scene,
 ) -> Result<Value, Memory>
-    ensures { IfOk result (λ v. v ≡ one_value function (outlook_of (K.sight look.now) scene.entry.now) a.now) }
+    ensures { IfOk result (λ v. v ≡ one_value function (outlook_from K.Look from.now) a.now) }
 {
     match function {
         Function::Abs
@@ -57,9 +54,9 @@ fn one_value<K: Look>(
         | Function::TimeValue => Ok(of_text(function, &a.value)),
         Function::Upper | Function::Lower | Function::Proper | Function::Trim | Function::Clean =>
             changed(function, &a.value),
-        Function::Char => char_value(alloc, &a.value),
-        Function::CellPointer => told_value(alloc, scene.cursor, &a.value, look),
-        Function::Pointed => pointed_value(&a.value, look),
+        Function::Char => char_value(from.alloc, &a.value),
+        Function::CellPointer => told_value(from.alloc, from.scene.cursor, &a.value, from.look),
+        Function::Pointed => pointed_value(&a.value, from.look),
         Function::Cols | Function::Rows => Ok(extent_of(function, a)),
         _ => Ok(test_value(function, &a.value)),
     }
@@ -67,63 +64,57 @@ fn one_value<K: Look>(
 
 // A function of two arguments.
 fn two_value<K: Look>(
-    alloc: Global,
+    from: &Standpoint<'_, K>,
     function: Function,
     a: &Argument,
     b: &Argument,
-    look: &K,
-    scene: &Scene,
 ) -> Result<Value, Memory>
-    ensures { IfOk result (λ v. v ≡ two_value function (outlook_of (K.sight look.now) scene.entry.now) a.now b.now) }
+    ensures { IfOk result (λ v. v ≡ two_value function (outlook_from K.Look from.now) a.now b.now) }
 {
     match function {
         Function::Repeat | Function::Left | Function::Right => {
             cut_value(function, &a.value, &b.value)
         }
-        Function::String => string_value(alloc, &a.value, &b.value),
+        Function::String => string_value(from.alloc, &a.value, &b.value),
         Function::Exact => Ok(exact_value(&a.value, &b.value)),
-        Function::Cell => cell_value(alloc, &a.value, b.operand, look),
+        Function::Cell => cell_value(from.alloc, &a.value, b.operand, from.look),
         _ => Ok(of_numbers(function, &a.value, &b.value)),
     }
 }
 
 // A function of three arguments.
 fn three_value<K: Look>(
+    from: &Standpoint<'_, K>,
     function: Function,
     a: &Argument,
     b: &Argument,
     c: &Argument,
-    look: &K,
-    scene: &Scene,
 ) -> Result<Value, Memory>
-    ensures { let w = outlook_of (K.sight look.now) scene.entry.now in
-        IfOk result (λ v. v ≡ three_value function w a.now b.now c.now) }
+    ensures { IfOk result (λ v. v ≡ three_value function (outlook_from K.Look from.now) a.now b.now c.now) }
 {
     match function {
         Function::Mid => mid_value(&a.value, &b.value, &c.value),
         Function::Find => Ok(find_value(&a.value, &b.value, &c.value)),
-        Function::VLookup => lookup_value(false, &a.value, b.operand, &c.value, look),
-        Function::HLookup => lookup_value(true, &a.value, b.operand, &c.value, look),
-        Function::Index => index_value(a.operand, &b.value, &c.value, look),
+        Function::VLookup => lookup_value(false, &a.value, b.operand, &c.value, from.look),
+        Function::HLookup => lookup_value(true, &a.value, b.operand, &c.value, from.look),
+        Function::Index => index_value(a.operand, &b.value, &c.value, from.look),
         _ => Ok(of_parts(function, &a.value, &b.value, &c.value)),
     }
 }
 
 /// A function of arguments that are all wanted, but for the functions of lists.
 pub fn called<K: Look>(
-    alloc: Global,
+    from: &Standpoint<'_, K>,
     function: Function,
     arguments: &[Argument],
-    look: &K,
-    scene: &Scene,
 ) -> Result<Value, Memory>
-    ensures { IfOk result (λ v. v ≡ called function (outlook_of (K.sight look.now) scene.entry.now) arguments.now) }
+    ensures { IfOk result (λ v. v ≡ called function (outlook_from K.Look from.now) arguments.now) }
 {
     match arguments {
-        [] => Ok(constant_value(function, scene.now)),
-        [a] => one_value(alloc, function, a, look, scene),
-        [a, b] => two_value(alloc, function, a, b, look, scene),
-        [a, b, c] => three_value(function, a, b, c, look, scene),
+        [] => Ok(constant_value(function, from.scene.now)),
+        [a] => one_value(from, function, a),
+        [a, b] => two_value(from, function, a, b),
+        [a, b, c] => three_value(from, function, a, b, c),
         [a, b, c, d] => replace_value(&a.value, &b.value, &c.value, &d.value),
         _ => Ok(Value::Err),
     }

@@ -1,14 +1,13 @@
 // How the functions of records are answered: within a criterion by ERR.
 ghost use Rattle.std.specs.Prelude.{◌≡◌, IfOk};
-ghost use Rattle.formula_parts.specs.Outlook.{Sight};
 ghost use Rattle.formula_parts.specs.Parts.{refused, Database};
-ghost use Rattle.formula_parts.specs.Scenes.{outlook_of};
+ghost use Rattle.formula_parts.specs.Standpoints.{outlook_from};
 
 use crate::argument::Argument;
-use crate::look::{Look, Scene};
+use crate::look::Look;
+use crate::standpoint::Standpoint;
 use formula_tree::{Function, Value};
 use lics_text::Memory;
-use std::alloc::Global;
 
 /// What answers the functions of records.
 pub trait Databases {
@@ -17,14 +16,11 @@ pub trait Databases {
     /// The value of a function of records, by its arguments.
     fn value<K: Look>(
         &self,
-        alloc: Global,
+        from: &Standpoint<'_, K>,
         function: Function,
         arguments: &[Argument],
-        look: &K,
-        scene: &Scene,
     ) -> Result<Value, Memory>
-        ensures { let w = outlook_of (K.sight look.now) scene.entry.now in
-            IfOk result (λ v. v ≡ answers function w arguments.now) };
+        ensures { IfOk result (λ v. v ≡ answers function (outlook_from K.Look from.now) arguments.now) };
 }
 
 /// Within a criterion each of them is ERR.
@@ -35,11 +31,9 @@ impl Databases for Refused {
 
     fn value<K: Look>(
         &self,
-        _alloc: Global,
+        _from: &Standpoint<'_, K>,
         _function: Function,
         _arguments: &[Argument],
-        _look: &K,
-        _scene: &Scene,
     ) -> Result<Value, Memory> {
         Ok(Value::Err)
     }

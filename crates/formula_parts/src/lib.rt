@@ -14,10 +14,11 @@ mod lookups;
 mod meaning;
 mod numbers;
 mod rising;
+mod standpoint;
 mod totals;
 
 pub use argument::{Argument, Operand};
-pub use databases::{Databases, Refused};
+pub use databases::Databases;
 pub use items::{Item, put_cell};
 pub use kept::Kept;
 pub use lists::total_in;
@@ -25,4 +26,5 @@ pub use look::{Look, Scene};
 pub use lookups::{place_in, range_of};
 pub use meaning::{composed, filled_in, glance_within, value_of};
 pub use numbers::number_of;
+pub use standpoint::Standpoint;
 pub use totals::{Total, value_for};

@@ -7,6 +7,7 @@ ghost use Rattle.formula_parts.specs.Outlook.{Sight};
 ghost use Rattle.formula_parts.specs.Scenes.{outlook_of};
 
 use crate::fields::field_named;
+use crate::query::Query;
 use formula_parts::{Look, Scene, glance_within};
 use formula_tree::{ContentRef, ValueRef};
 use grid_address::{Cell, Span, column_at, count_below, header, row_below, rows_behind, rows_down};
@@ -85,24 +86,23 @@ fn holds<K: Look>(
 fn row_holds<K: Look>(
     look: &K,
     scene: &Scene,
-    input: Span,
-    criterion: Span,
+    query: &Query,
     fields: &[Option<u8>],
     row: u16,
     conditions: u16,
 ) -> Result<bool, Memory>
-    requires fields { fields.now ≡ fields_of (K.sight look.now) input criterion }
-    requires record { input.first.row < row }
+    requires fields { fields.now ≡ fields_of (K.sight look.now) query.now.input query.now.criterion }
+    requires record { query.now.input.first.row < row }
     requires row { row ≤ last_row }
     requires conditions { conditions ≤ last_row }
     ensures { let w = outlook_of (K.sight look.now) scene.entry.now in
-        IfOk result (λ b. b ≡ row_holds w input criterion row conditions) }
+        IfOk result (λ b. b ≡ row_holds w query.now.input query.now.criterion row conditions) }
 {
-    let count = rows_behind(input, row);
-    for col in 0..criterion.width() {
+    let count = rows_behind(query.input, row);
+    for col in 0..query.criterion.width() {
         let cell = Cell {
             row: conditions,
-            col: column_at(criterion, col),
+            col: column_at(query.criterion, col),
         };
         let held = holds(look, scene, cell, fields[usize::from(col)], row, count)?;
         if !held {
@@ -116,20 +116,19 @@ fn row_holds<K: Look>(
 pub fn record_matches<K: Look>(
     look: &K,
     scene: &Scene,
-    input: Span,
-    criterion: Span,
+    query: &Query,
     fields: &[Option<u8>],
     row: u16,
 ) -> Result<bool, Memory>
-    requires fields { fields.now ≡ fields_of (K.sight look.now) input criterion }
-    requires record { input.first.row < row }
+    requires fields { fields.now ≡ fields_of (K.sight look.now) query.now.input query.now.criterion }
+    requires record { query.now.input.first.row < row }
     requires row { row ≤ last_row }
     ensures { let w = outlook_of (K.sight look.now) scene.entry.now in
-        IfOk result (λ b. b ≡ record_matches w input criterion row) }
+        IfOk result (λ b. b ≡ record_matches w query.now.input query.now.criterion row) }
 {
-    for place in 0..count_below(criterion) {
-        let conditions = row_below(criterion, place);
-        let found = row_holds(look, scene, input, criterion, fields, row, conditions)?;
+    for place in 0..count_below(query.criterion) {
+        let conditions = row_below(query.criterion, place);
+        let found = row_holds(look, scene, query, fields, row, conditions)?;
         if found {
             return Ok(true);
         }

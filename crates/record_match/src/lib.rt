@@ -4,6 +4,7 @@
 mod criteria;
 mod fields;
 mod headers;
+mod query;
 mod record_match;
 mod recorded;
 mod records;
@@ -11,5 +12,6 @@ mod records;
 pub use criteria::{content_holds, fields_of, record_matches};
 pub use fields::{field_named, has_fields, is_label_at, is_no_field};
 pub use headers::missing;
+pub use query::Query;
 pub use record_match::{Match, matches};
 pub use recorded::Recorded;

@@ -7,8 +7,9 @@ ghost use Rattle.formula_parts.specs.Scenes.{outlook_of};
 use crate::criteria::{fields_of, record_matches};
 use crate::fields::has_fields;
 use crate::headers::missing;
+use crate::query::Query;
 use formula_parts::{Look, Scene};
-use grid_address::{Cell, Span};
+use grid_address::Cell;
 use lics_text::Memory;
 use std::alloc::Global;
 
@@ -29,28 +30,28 @@ pub enum Match {
 /// that the first of two equal names counts, are this project's own choice.)
 pub fn matches<K: Look>(
     alloc: Global,
-    input: Span,
-    criterion: Span,
+    query: &Query,
     row: u16,
     look: &K,
     scene: &Scene,
 ) -> Result<Match, Memory>
-    requires first { input.first.row ≤ row }
-    requires last { row ≤ input.last.row }
+    requires first { query.now.input.first.row ≤ row }
+    requires last { row ≤ query.now.input.last.row }
     ensures { let w = outlook_of (K.sight look.now) scene.entry.now in
-        IfOk result (λ m. m ≡ matching w input criterion row) }
+        IfOk result (λ m. m ≡ matching w query.now.input query.now.criterion row) }
 {
-    if !has_fields(look, input) {
+    if !has_fields(look, query.input) {
         return Ok(Match::NoFieldRow);
     }
-    if let Some(col) = missing(look, input, criterion) {
-        let row = criterion.first.row;
+    if let Some(col) = missing(look, query.input, query.criterion) {
+        let row = query.criterion.first.row;
         return Ok(Match::FieldAbsent(Cell { row, col }));
     }
-    if row == input.first.row {
+    if row == query.input.first.row {
         return Ok(Match::No);
     }
-    let fields = fields_of(alloc, look, input, criterion)?;
-    let found = record_matches(look, scene, input, criterion, fields.as_slice(), row)?;
+    query.input.last.is_on_sheet();
+    let fields = fields_of(alloc, look, query.input, query.criterion)?;
+    let found = record_matches(look, scene, query, fields.as_slice(), row)?;
     if found { Ok(Match::Yes) } else { Ok(Match::No) }
 }

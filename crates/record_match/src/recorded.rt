@@ -2,10 +2,9 @@
 ghost use Rattle.record_match.specs.Databases.{database_value};
 
 use crate::records::database_value;
-use formula_parts::{Argument, Databases, Look, Scene};
+use formula_parts::{Argument, Databases, Look, Standpoint};
 use formula_tree::{Function, Value};
 use lics_text::Memory;
-use std::alloc::Global;
 
 /// The records answer them.
 pub struct Recorded;
@@ -15,12 +14,10 @@ impl Databases for Recorded {
 
     fn value<K: Look>(
         &self,
-        alloc: Global,
+        from: &Standpoint<'_, K>,
         function: Function,
         arguments: &[Argument],
-        look: &K,
-        scene: &Scene,
     ) -> Result<Value, Memory> {
-        database_value(alloc, function, arguments, look, scene)
+        database_value(from, function, arguments)
     }
 }

@@ -4,18 +4,18 @@ ghost use Rattle.grid_address.specs.Place.{width_of};
 ghost use Rattle.record_match.specs.Criteria.{fields_of};
 ghost use Rattle.record_match.specs.Databases.{by_column, database_value, is_asked, list_function, over_column, record_items};
 ghost use Rattle.formula_parts.specs.Outlook.{Sight};
-ghost use Rattle.formula_parts.specs.Scenes.{outlook_of};
+ghost use Rattle.formula_parts.specs.Standpoints.{outlook_from};
 
 use crate::criteria::{fields_of, record_matches};
 use crate::fields::has_fields;
 use crate::headers::missing;
+use crate::query::Query;
 use formula_parts::{
-    Argument, Item, Look, Scene, place_in, put_cell, range_of, total_in, value_for,
+    Argument, Item, Look, Standpoint, place_in, put_cell, range_of, total_in, value_for,
 };
 use formula_tree::{Function, Value};
-use grid_address::{Cell, Span, column_at, count_below, row_below};
+use grid_address::{Cell, column_at, count_below, row_below};
 use lics_text::Memory;
-use std::alloc::Global;
 use value_functions::{number_in, stop_one};
 
 // The function of a list that a function of records is.
@@ -32,13 +32,13 @@ fn list_function(function: Function) -> Function
 }
 
 // Whether the input names its fields, and the criterion speaks of these alone.
-fn is_asked<K: Look>(look: &K, input: Span, criterion: Span) -> bool
-    ensures { result ≡ is_asked (K.sight look.now) input criterion }
+fn is_asked<K: Look>(look: &K, query: &Query) -> bool
+    ensures { result ≡ is_asked (K.sight look.now) query.now.input query.now.criterion }
 {
-    if !has_fields(look, input) {
+    if !has_fields(look, query.input) {
         return false;
     }
-    match missing(look, input, criterion) {
+    match missing(look, query.input, query.criterion) {
         Some(_) => false,
         None => true,
     }
@@ -46,24 +46,21 @@ fn is_asked<K: Look>(look: &K, input: Span, criterion: Span) -> bool
 
 // The cells of a column in the records that match, where the headers of the criterion name these fields.
 fn items_of_records<K: Look>(
-    alloc: Global,
-    look: &K,
-    scene: &Scene,
-    input: Span,
-    criterion: Span,
+    from: &Standpoint<'_, K>,
+    query: &Query,
     fields: &[Option<u8>],
     col: u8,
 ) -> Result<Vec<Item>, Memory>
-    requires { fields.now ≡ fields_of (K.sight look.now) input criterion }
-    ensures { let w = outlook_of (K.sight look.now) scene.entry.now in
-        IfOk result (λ v. v.items ≡ record_items w input criterion col) }
+    requires { fields.now ≡ fields_of (K.sight from.now.look.now) query.now.input query.now.criterion }
+    ensures { let w = outlook_from K.Look from.now in
+        IfOk result (λ v. v.items ≡ record_items w query.now.input query.now.criterion col) }
 {
-    let mut items = Vec::new(alloc);
-    for place in 0..count_below(input) {
-        let row = row_below(input, place);
-        let found = record_matches(look, scene, input, criterion, fields, row)?;
+    let mut items = Vec::new(from.alloc);
+    for place in 0..count_below(query.input) {
+        let row = row_below(query.input, place);
+        let found = record_matches(from.look, from.scene, query, fields, row)?;
         if found {
-            put_cell(&mut items, &look.value(Cell { row, col }))?;
+            put_cell(&mut items, &from.look.value(Cell { row, col }))?;
         }
     }
     Ok(items)
@@ -71,55 +68,46 @@ fn items_of_records<K: Look>(
 
 // The cells of a column in the records that match.
 fn record_items<K: Look>(
-    alloc: Global,
-    look: &K,
-    scene: &Scene,
-    input: Span,
-    criterion: Span,
+    from: &Standpoint<'_, K>,
+    query: &Query,
     col: u8,
 ) -> Result<Vec<Item>, Memory>
-    ensures { let w = outlook_of (K.sight look.now) scene.entry.now in
-        IfOk result (λ v. v.items ≡ record_items w input criterion col) }
+    ensures { let w = outlook_from K.Look from.now in
+        IfOk result (λ v. v.items ≡ record_items w query.now.input query.now.criterion col) }
 {
-    let fields = fields_of(alloc, look, input, criterion)?;
-    items_of_records(alloc, look, scene, input, criterion, fields.as_slice(), col)
+    let fields = fields_of(from.alloc, from.look, query.input, query.criterion)?;
+    items_of_records(from, query, fields.as_slice(), col)
 }
 
 // A function of records over a column, counted from the first.
 fn over_column<K: Look>(
-    alloc: Global,
+    from: &Standpoint<'_, K>,
     function: Function,
-    input: Span,
-    criterion: Span,
+    query: &Query,
     place: u16,
-    look: &K,
-    scene: &Scene,
 ) -> Result<Value, Memory>
-    requires { place < width_of input }
-    ensures { let w = outlook_of (K.sight look.now) scene.entry.now in
-        IfOk result (λ v. v ≡ over_column function w input criterion place) }
+    requires { place < width_of query.now.input }
+    ensures { let w = outlook_from K.Look from.now in
+        IfOk result (λ v. v ≡ over_column function w query.now.input query.now.criterion place) }
 {
-    if !is_asked(look, input, criterion) {
+    if !is_asked(from.look, query) {
         return Ok(Value::Err);
     }
-    let col = column_at(input, place);
-    let items = record_items(alloc, look, scene, input, criterion, col)?;
+    let col = column_at(query.input, place);
+    let items = record_items(from, query, col)?;
     let total = total_in(items.as_slice())?;
     Ok(value_for(list_function(function), &total))
 }
 
 // A function of records over the column of this number.
 fn by_column<K: Look>(
-    alloc: Global,
+    from: &Standpoint<'_, K>,
     function: Function,
-    input: Span,
-    criterion: Span,
+    query: &Query,
     number: &Value,
-    look: &K,
-    scene: &Scene,
 ) -> Result<Value, Memory>
-    ensures { let w = outlook_of (K.sight look.now) scene.entry.now in
-        IfOk result (λ v. v ≡ by_column function w input criterion number.now) }
+    ensures { let w = outlook_from K.Look from.now in
+        IfOk result (λ v. v ≡ by_column function w query.now.input query.now.criterion number.now) }
 {
     if let Some(stopped) = stop_one(number) {
         return Ok(stopped);
@@ -127,8 +115,8 @@ fn by_column<K: Look>(
     let Some(number) = number_in(number) else {
         return Ok(Value::Err);
     };
-    match place_in(number, input.width()) {
-        Some(place) => over_column(alloc, function, input, criterion, place, look, scene),
+    match place_in(number, query.input.width()) {
+        Some(place) => over_column(from, function, query, place),
         None => Ok(Value::Err),
     }
 }
@@ -138,27 +126,18 @@ fn by_column<K: Look>(
 /// header of the criterion above a number or a label names none of them, or the input has no such column. (Release 2
 /// manual; that ERR and NA for a number win over the last three is this project's own choice.)
 pub fn database_value<K: Look>(
-    alloc: Global,
+    from: &Standpoint<'_, K>,
     function: Function,
     arguments: &[Argument],
-    look: &K,
-    scene: &Scene,
 ) -> Result<Value, Memory>
-    ensures { let w = outlook_of (K.sight look.now) scene.entry.now in
-        IfOk result (λ v. v ≡ database_value function w arguments.now) }
+    ensures { IfOk result (λ v. v ≡ database_value function (outlook_from K.Look from.now) arguments.now) }
 {
     match arguments {
         [input, number, criterion] => match range_of(input.operand) {
             Some(input) => match range_of(criterion.operand) {
-                Some(criterion) => by_column(
-                    alloc,
-                    function,
-                    input,
-                    criterion,
-                    &number.value,
-                    look,
-                    scene,
-                ),
+                Some(criterion) => {
+                    by_column(from, function, &Query { input, criterion }, &number.value)
+                }
                 None => Ok(Value::Err),
             },
             None => Ok(Value::Err),

@@ -7,19 +7,21 @@ use Rattle.data_query.proofs.extracting.extract.Goals as goal
 pub returns-in-Ok-clause-found : goal.returns-in-Ok-clause-found
 returns-in-Ok-clause-found g c =
     let outlook = outlook_of (g.K.Look.sight c.args.look.now) c.args.scene.now in
+    let made = c.args.extraction.now in
     found_as c.fields_extracted.result _ _
-    (ap (fields_extracted outlook c.args.input c.args.criterion c.args.output c.args.unique)
+    (ap (fields_extracted outlook made.query.input made.query.criterion made.output made.unique)
     (c.as_slice.ensures.value ∙ c.in-Ok.ensures)
-    ∙ sym (goes_on outlook c.args.input c.args.criterion c.args.output c.args.unique
+    ∙ sym (goes_on outlook made.query.input made.query.criterion made.output made.unique
     (sym c.asked.ensures ∙ c.in_ok-asked.was) (sym c.labelled.ensures ∙ c.in_ok-labelled.was)))
     c.fields_extracted.ensures.found
 
 pub returns-in-Ok-clause-fault : goal.returns-in-Ok-clause-fault
 returns-in-Ok-clause-fault g c =
     let outlook = outlook_of (g.K.Look.sight c.args.look.now) c.args.scene.now in
+    let made = c.args.extraction.now in
     fault_as c.fields_extracted.result _ _
-    (ap (fields_extracted outlook c.args.input c.args.criterion c.args.output c.args.unique)
+    (ap (fields_extracted outlook made.query.input made.query.criterion made.output made.unique)
     (c.as_slice.ensures.value ∙ c.in-Ok.ensures)
-    ∙ sym (goes_on outlook c.args.input c.args.criterion c.args.output c.args.unique
+    ∙ sym (goes_on outlook made.query.input made.query.criterion made.output made.unique
     (sym c.asked.ensures ∙ c.in_ok-asked.was) (sym c.labelled.ensures ∙ c.in_ok-labelled.was)))
     c.fields_extracted.ensures.fault

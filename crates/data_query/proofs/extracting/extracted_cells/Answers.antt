@@ -6,22 +6,28 @@ use Rattle.data_query.proofs.extracting.extracted_cells.Goals as goal
 pub returns-in_ok-kept : goal.returns-in_ok-kept
 returns-in_ok-kept g c =
     let outlook = outlook_of (g.K.Look.sight c.args.look.now) c.args.scene.now in
+    let made = c.args.extraction.now in
+    let input = made.query.input in
+    let criterion = made.query.criterion in
     record {
       rows =
-          rows_that_differ outlook c.args.input c.args.criterion c.args.unique c.args.fields.now c.in_ok-kept.kept
-          c.as_slice.result.now c.in_ok-cells.cells c.in_ok-kept.ensures c.as_slice.ensures c.in_ok-cells.ensures
-          c.if-unique.true;
+          rows_that_differ outlook input criterion made.unique c.args.fields.now c.in_ok-kept.kept c.as_slice.result.now
+          c.in_ok-cells.cells c.in_ok-kept.ensures c.as_slice.ensures c.in_ok-cells.ensures
+          c.if-extraction.true;
       count =
-          few_kept outlook c.args.input c.args.criterion c.args.fields.now c.in_ok-kept.kept c.as_slice.result.now
+          few_kept outlook input criterion c.args.fields.now c.in_ok-kept.kept c.as_slice.result.now
           c.in_ok-cells.cells c.in_ok-kept.ensures c.as_slice.ensures c.in_ok-cells.ensures (omega arith);
     }
 
-pub returns-else-unique : goal.returns-else-unique
-returns-else-unique g c =
+pub returns-else-extraction : goal.returns-else-extraction
+returns-else-extraction g c =
     let outlook = outlook_of (g.K.Look.sight c.args.look.now) c.args.scene.now in
+    let made = c.args.extraction.now in
+    let input = made.query.input in
+    let criterion = made.query.criterion in
     record {
       rows =
-          all_rows outlook c.args.input c.args.criterion c.args.unique c.args.fields.now c.in_ok-cells.cells
-          c.in_ok-cells.ensures c.if-unique.false;
-      count = few_cells outlook c.args.input c.args.criterion c.in_ok-cells.cells c.in_ok-cells.ensures (omega arith);
+          all_rows outlook input criterion made.unique c.args.fields.now c.in_ok-cells.cells
+          c.in_ok-cells.ensures c.if-extraction.false;
+      count = few_cells outlook input criterion c.in_ok-cells.cells c.in_ok-cells.ensures (omega arith);
     }

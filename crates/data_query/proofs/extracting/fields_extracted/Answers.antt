@@ -13,12 +13,12 @@ rows_extracted-requires g c =
 
 pub returns-in-Ok-clause-found : goal.returns-in-Ok-clause-found
 returns-in-Ok-clause-found g c =
-    let made = rows_extracted (g.K.Look.sight c.args.look.now) c.args.output c.args.fields.now in
+    let made = rows_extracted (g.K.Look.sight c.args.look.now) c.args.extraction.now.output c.args.fields.now in
     found_as c.rows_extracted.result _ _ (ap made (ap (map row_of) c.as_slice.ensures ∙ c.in-Ok.ensures.rows))
     c.rows_extracted.ensures.found
 
 pub returns-in-Ok-clause-fault : goal.returns-in-Ok-clause-fault
 returns-in-Ok-clause-fault g c =
-    let made = rows_extracted (g.K.Look.sight c.args.look.now) c.args.output c.args.fields.now in
+    let made = rows_extracted (g.K.Look.sight c.args.look.now) c.args.extraction.now.output c.args.fields.now in
     fault_as c.rows_extracted.result _ _ (ap made (ap (map row_of) c.as_slice.ensures ∙ c.in-Ok.ensures.rows))
     c.rows_extracted.ensures.fault

@@ -12,8 +12,8 @@ use Rattle.data_query.proofs.plan.records_of.Goals.{then-is_wanted+in_ok-push, e
 pub loop-place-init : goal.loop-place-init
 loop-place-init g c =
     let outlook = outlook_of (g.K.Look.sight c.args.look.now) c.args.scene.now in
-    let input = c.args.input in
-    let criterion = c.args.criterion in
+    let input = c.args.query.now.input in
+    let criterion = c.args.query.now.criterion in
     let make = λ (row : ℕ). at row input.first.col in
     let test = λ (row : ℕ). is_wanted c.args.wanted (record_matches outlook input criterion row) in
     let n = input.first.row + 1 in
@@ -24,8 +24,8 @@ loop-place-init g c =
 pub loop-place-preserved : goal.loop-place-preserved
 loop-place-preserved g c =
     let outlook = outlook_of (g.K.Look.sight c.args.look.now) c.args.scene.now in
-    let input = c.args.input in
-    let criterion = c.args.criterion in
+    let input = c.args.query.now.input in
+    let criterion = c.args.query.now.criterion in
     let make = λ (row : ℕ). at row input.first.col in
     let test = λ (row : ℕ). is_wanted c.args.wanted (record_matches outlook input criterion row) in
     let all = map make (records outlook input criterion c.args.wanted) in
@@ -50,8 +50,8 @@ loop-place-preserved g c =
 pub returns : goal.returns
 returns g c =
     let outlook = outlook_of (g.K.Look.sight c.args.look.now) c.args.scene.now in
-    let input = c.args.input in
-    let criterion = c.args.criterion in
+    let input = c.args.query.now.input in
+    let criterion = c.args.query.now.criterion in
     let make = λ (row : ℕ). at row input.first.col in
     let test = λ (row : ℕ). is_wanted c.args.wanted (record_matches outlook input criterion row) in
     let all = map make (records outlook input criterion c.args.wanted) in

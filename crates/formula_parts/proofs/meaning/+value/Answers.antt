@@ -7,7 +7,7 @@ use Rattle.formula_tree.proofs.Rows.{fewer_nodes, tree_of-Call}
 use Rattle.formula_parts.specs.Calls.{choice}
 use Rattle.formula_parts.specs.Parts.{arguments_by, call_value, value_by}
 use Rattle.formula_parts.specs.declared.argument.Argument.{Argument}
-use Rattle.formula_parts.specs.Scenes.{outlook_of}
+use Rattle.formula_parts.specs.Standpoints.{outlook_from}
 use Rattle.formula_parts.proofs.Places.{argument, nth_is, nth_past, one_more, stopped, taken}
 use Rattle.formula_parts.proofs.meaning.+value.Goals as goal
 
@@ -19,8 +19,8 @@ arguments_of-composed-requires g t c κs within =
 
 pub arguments_of-loop-expr-preserved : goal.arguments_of-loop-expr-preserved
 arguments_of-loop-expr-preserved g t c =
-    let w = outlook_of (g.K.Look.sight c.args.look.now) c.args.scene.now in
-    let at = c.args.at in
+    let w = outlook_from g.K.Look c.args.from.now in
+    let at = c.args.from.now.at in
     let es = c.args.exprs.now in
     let item = c.expr-item.result in
     let before = c.loop-expr.arguments.items in
@@ -41,8 +41,8 @@ chosen-composed-requires-then-place-exprs g t c κs within =
 
 pub chosen-returns-then-place-exprs : goal.chosen-returns-then-place-exprs
 chosen-returns-then-place-exprs g t c =
-    let w = outlook_of (g.K.Look.sight c.args.look.now) c.args.scene.now in
-    let at = c.args.at in
+    let w = outlook_from g.K.Look c.args.from.now in
+    let at = c.args.from.now.at in
     let es = c.args.exprs.now in
     let f = c.args.function in
     let place = c.in-Ok.place in
@@ -61,8 +61,8 @@ chosen-returns-then-place-exprs g t c =
 
 pub chosen-returns-in-Ok : goal.chosen-returns-in-Ok
 chosen-returns-in-Ok g t c =
-    let w = outlook_of (g.K.Look.sight c.args.look.now) c.args.scene.now in
-    let at = c.args.at in
+    let w = outlook_from g.K.Look c.args.from.now in
+    let at = c.args.from.now.at in
     let es = c.args.exprs.now in
     let f = c.args.function in
     let place = c.in-Ok.place in
@@ -78,8 +78,8 @@ chosen-returns-in-Ok g t c =
 
 pub chosen-returns : goal.chosen-returns
 chosen-returns g t c =
-    let w = outlook_of (g.K.Look.sight c.args.look.now) c.args.scene.now in
-    let at = c.args.at in
+    let w = outlook_from g.K.Look c.args.from.now in
+    let at = c.args.from.now.at in
     let es = c.args.exprs.now in
     let f = c.args.function in
     let zeroth = c.index-exprs-0.result in
@@ -103,8 +103,8 @@ value_of-call_value-requires g t c κs within =
 
 pub value_of-returns-in-Call : goal.value_of-returns-in-Call
 value_of-returns-in-Call g t c =
-    let w = outlook_of (g.K.Look.sight c.args.look.now) c.args.scene.now in
-    let at = c.args.at in
+    let w = outlook_from g.K.Look c.args.from.now in
+    let at = c.args.from.now.at in
     let f = c.in-Call.function in
     let args = c.in-Call.exprs in
     let is =

@@ -2,7 +2,7 @@ use Rattle.std.proofs.Common.{◌≡◌, ◌+◌, ◌*◌, map, take}
 use Rattle.formula_tree.specs.inner.Nodes.{all_nodes, nodes}
 use Rattle.formula_tree.specs.View.{listed, tree_of}
 use Rattle.formula_parts.specs.Parts.{arguments_by}
-use Rattle.formula_parts.specs.Scenes.{outlook_of}
+use Rattle.formula_parts.specs.Standpoints.{outlook_from}
 use Rattle.formula_parts.proofs.meaning.+value.Given as goal
 
 abbrev pub decreases-value_of : goal.decreases-value_of
@@ -29,5 +29,5 @@ decreases-binary_value g l = 5 * (nodes (tree_of l.left.now) + nodes (tree_of l.
 abbrev pub invariant-arguments_of-loop-expr : goal.invariant-arguments_of-loop-expr
 invariant-arguments_of-loop-expr g l =
     l.arguments.items
-    ≡ arguments_by g.D.Databases.answers (listed (map tree_of (take l.expr-index l.exprs))) l.at
-    (outlook_of (g.K.Look.sight l.look) l.scene)
+    ≡ arguments_by g.D.Databases.answers (listed (map tree_of (take l.expr-index l.exprs))) l.from.at
+    (outlook_from g.K.Look l.from)

@@ -7,6 +7,6 @@ use Rattle.record_match.proofs.criteria.record_matches.Given as goal
 
 abbrev pub invariant-loop-place : goal.invariant-loop-place
 invariant-loop-place g l =
-    list_any (row_holds (outlook_of (g.K.Look.sight l.look) l.scene) l.input l.criterion l.row)
-    (left (l.criterion.first.row + 1) (l.criterion.last.row - l.criterion.first.row) l.place)
-    ≡ record_matches (outlook_of (g.K.Look.sight l.look) l.scene) l.input l.criterion l.row
+    list_any (row_holds (outlook_of (g.K.Look.sight l.look) l.scene) l.query.input l.query.criterion l.row)
+    (left (l.query.criterion.first.row + 1) (l.query.criterion.last.row - l.query.criterion.first.row) l.place)
+    ≡ record_matches (outlook_of (g.K.Look.sight l.look) l.scene) l.query.input l.query.criterion l.row

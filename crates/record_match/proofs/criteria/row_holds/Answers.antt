@@ -12,25 +12,25 @@ use Rattle.record_match.proofs.criteria.row_holds.Goals as goal
 pub bounds-fields-from : goal.bounds-fields-from
 bounds-fields-from g c =
     let sight = g.K.Look.sight c.args.look.now in
-    let many : length c.args.fields.now ≡ width_of c.args.criterion =
+    let many : length c.args.fields.now ≡ width_of c.args.query.now.criterion =
     ap length c.requires.fields
-    ∙ made_count (λ (col : ℕ). field_named sight c.args.input (at c.args.criterion.first.row col))
-    c.args.criterion.first.col (width_of c.args.criterion) in
+    ∙ made_count (λ (col : ℕ). field_named sight c.args.query.now.input (at c.args.query.now.criterion.first.row col))
+    c.args.query.now.criterion.first.col (width_of c.args.query.now.criterion) in
     omega (arith, c.loop-col-test.true, c.width-col-end.ensures.width, c.from.ensures, many)
 
 pub loop-col-init : goal.loop-col-init
 loop-col-init g c =
     let outlook = outlook_of (g.K.Look.sight c.args.look.now) c.args.scene.now in
-    let input = c.args.input in
-    let criterion = c.args.criterion in
+    let input = c.args.query.now.input in
+    let criterion = c.args.query.now.criterion in
     let f = λ (col : ℕ). holds_at outlook input criterion c.args.row (at c.args.conditions col) in
     ap (list_all f) (left_first criterion.first.col (width_of criterion))
 
 pub loop-col-preserved : goal.loop-col-preserved
 loop-col-preserved g c =
     let outlook = outlook_of (g.K.Look.sight c.args.look.now) c.args.scene.now in
-    let input = c.args.input in
-    let criterion = c.args.criterion in
+    let input = c.args.query.now.input in
+    let criterion = c.args.query.now.criterion in
     let f = λ (col : ℕ). holds_at outlook input criterion c.args.row (at c.args.conditions col) in
     let inside : c.loop-col.col < width_of criterion =
     omega (arith, c.loop-col-test.true, c.width-col-end.ensures.width) in
@@ -46,8 +46,8 @@ loop-col-preserved g c =
 pub returns-then-not-held : goal.returns-then-not-held
 returns-then-not-held g c =
     let outlook = outlook_of (g.K.Look.sight c.args.look.now) c.args.scene.now in
-    let input = c.args.input in
-    let criterion = c.args.criterion in
+    let input = c.args.query.now.input in
+    let criterion = c.args.query.now.criterion in
     let f = λ (col : ℕ). holds_at outlook input criterion c.args.row (at c.args.conditions col) in
     let inside : c.loop-col.col < width_of criterion =
     omega (arith, c.loop-col-test.true, c.width-col-end.ensures.width) in
@@ -63,8 +63,8 @@ returns-then-not-held g c =
 pub returns : goal.returns
 returns g c =
     let outlook = outlook_of (g.K.Look.sight c.args.look.now) c.args.scene.now in
-    let input = c.args.input in
-    let criterion = c.args.criterion in
+    let input = c.args.query.now.input in
+    let criterion = c.args.query.now.criterion in
     let f = λ (col : ℕ). holds_at outlook input criterion c.args.row (at c.args.conditions col) in
     all_end f criterion.first.col (width_of criterion) c.loop-col.col
     (row_holds outlook input criterion c.args.row c.args.conditions)

@@ -9,6 +9,6 @@ use Rattle.record_match.proofs.criteria.row_holds.Given as goal
 
 abbrev pub invariant-loop-col : goal.invariant-loop-col
 invariant-loop-col g l =
-    list_all (λ col. holds_at (outlook_of (g.K.Look.sight l.look) l.scene) l.fn.input l.criterion l.row
-    (at l.conditions col)) (left l.criterion.first.col (width_of l.criterion) l.col)
-    ≡ row_holds (outlook_of (g.K.Look.sight l.look) l.scene) l.fn.input l.criterion l.row l.conditions
+    list_all (λ col. holds_at (outlook_of (g.K.Look.sight l.look) l.scene) l.query.input l.query.criterion l.row
+    (at l.conditions col)) (left l.query.criterion.first.col (width_of l.query.criterion) l.col)
+    ≡ row_holds (outlook_of (g.K.Look.sight l.look) l.scene) l.query.input l.query.criterion l.row l.conditions

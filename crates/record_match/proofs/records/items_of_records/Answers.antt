@@ -3,17 +3,17 @@ use Rattle.formula_tree.specs.Seen.{seen_value}
 use Rattle.formula_parts.specs.declared.items.Item.{Item}
 use Rattle.record_match.specs.Criteria.{record_matches}
 use Rattle.record_match.specs.Databases.{record_items}
-use Rattle.formula_parts.specs.Scenes.{outlook_of}
+use Rattle.formula_parts.specs.Standpoints.{outlook_from}
 use Rattle.record_match.proofs.Columns.{behind, behind_all, no_record, pass_record, put_record}
 use Rattle.record_match.proofs.records.items_of_records.Goals as goal
 use Rattle.record_match.proofs.records.items_of_records.Goals.{then-found+in_ok-put_cell, else-found}
 
 pub loop-place-init : goal.loop-place-init
 loop-place-init g c =
-    let outlook = outlook_of (g.K.Look.sight c.args.look.now) c.args.scene.now in
+    let outlook = outlook_from g.K.Look c.args.from.now in
     let values = outlook.sight.values in
-    let input = c.args.input in
-    let test = record_matches outlook input c.args.criterion in
+    let input = c.args.query.now.input in
+    let test = record_matches outlook input c.args.query.now.criterion in
     ap (λ (l : List Item). l
     ++ behind values c.args.col test (input.first.row + 1) (input.last.row - input.first.row) 0)
     c.new-items.ensures.items
@@ -21,12 +21,12 @@ loop-place-init g c =
 
 pub loop-place-preserved : goal.loop-place-preserved
 loop-place-preserved g c =
-    let outlook = outlook_of (g.K.Look.sight c.args.look.now) c.args.scene.now in
+    let outlook = outlook_from g.K.Look c.args.from.now in
     let values = outlook.sight.values in
-    let input = c.args.input in
+    let input = c.args.query.now.input in
     let col = c.args.col in
-    let test = record_matches outlook input c.args.criterion in
-    let all = record_items outlook input c.args.criterion col in
+    let test = record_matches outlook input c.args.query.now.criterion in
+    let all = record_items outlook input c.args.query.now.criterion col in
     let n = input.first.row + 1 in
     let count = input.last.row - input.first.row in
     let place = c.loop-place.place in
@@ -45,9 +45,9 @@ loop-place-preserved g c =
 
 pub returns : goal.returns
 returns g c =
-    let outlook = outlook_of (g.K.Look.sight c.args.look.now) c.args.scene.now in
-    let input = c.args.input in
-    let test = record_matches outlook input c.args.criterion in
+    let outlook = outlook_from g.K.Look c.args.from.now in
+    let input = c.args.query.now.input in
+    let test = record_matches outlook input c.args.query.now.criterion in
     no_record outlook.sight.values c.args.col test (input.first.row + 1) (input.last.row - input.first.row)
-    c.loop-place.place c.loop-place.items.items (record_items outlook input c.args.criterion c.args.col)
+    c.loop-place.place c.loop-place.items.items (record_items outlook input c.args.query.now.criterion c.args.col)
     (omega (arith, c.loop-place-test.false, c.count_below-place-end.ensures.count)) c.loop-place.invariant
