@@ -3,10 +3,10 @@ use Rattle.std.specs.Prelude.{ℕ, ◌≡◌, ◌+◌, ◌++◌, refl, List, [],
 use Rattle.std.proofs.Common.{append_assoc, ap, sym, ◌∙◌}
 use Rattle.std.proofs.lemmas.List.{append-nil, map-append}
 use Rattle.commands_range.specs.Valued.{value_of, values_of}
-use Rattle.commands_range.specs.declared.values.Layout.{Layout}
+use Rattle.commands_range.specs.declared.values.ValueCopy.{ValueCopy}
 use Rattle.formula_parts.proofs.Blocks.{block_more, place, row_more}
 use Rattle.formula_parts.specs.Outlook.{block_cells, cells_of, row_cells, Sight}
-use Rattle.grid_address.specs.Place.{Extent, Place}
+use Rattle.grid_address.specs.Place.{Place}
 use Rattle.sheet_edits.specs.Spans.{written_cells}
 use Rattle.sheet_store.specs.declared.writes.Write.{Write}
 
@@ -33,11 +33,11 @@ module _ (f : Place → Write) where
       ∙ map-append f (block_cells row col n cols) (row_cells (row + n) col cols))
 
 -- each cell is that of its write
-module _ (l : Layout) (from target : Extent) (sight : Sight) where
-  cells_are : (cells : List Place) → written_cells (map (value_of l from target sight) cells) ≡ cells
+module _ (x : ValueCopy) (sight : Sight) where
+  cells_are : (cells : List Place) → written_cells (map (value_of x sight) cells) ≡ cells
   cells_are [] = refl
   cells_are (c ∷ cells) = ap (λ (t : List Place). c ∷ t) (cells_are cells)
 
   -- the written values stand in the cells of the target
-  pub written_are : written_cells (values_of l from target sight) ≡ cells_of target
-  written_are = cells_are (cells_of target)
+  pub written_are : written_cells (values_of x sight) ≡ cells_of x.target
+  written_are = cells_are (cells_of x.target)

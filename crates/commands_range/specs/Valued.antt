@@ -5,6 +5,7 @@ use Rattle.command_desk.specs.Acting.{refused, written, Acted}
 use Rattle.command_desk.specs.Writing.{sight_in}
 use Rattle.commands_range.specs.declared.values.Layout.{Layout}
 use Rattle.commands_range.specs.declared.values.Layout.TheVariants as layout
+use Rattle.commands_range.specs.declared.values.ValueCopy.{ValueCopy}
 use Rattle.desk_errors.specs.declared.error.CommandError.TheVariants as error
 use Rattle.formula_parts.specs.Outlook.{cells_of, Sight}
 use Rattle.formula_parts.specs.declared.look.Scene.{Scene}
@@ -38,26 +39,26 @@ source_at layout.Straight from down across = inside from down across
 source_at layout.Turned from down across = inside from across down
 
 -- whose value a cell of the written span takes
-abbrev pub source_of : Layout → Extent → Extent → Place → Place
-source_of l from target c = source_at l from (c.row - target.first.row) (c.col - target.first.col)
+abbrev pub source_of : ValueCopy → Place → Place
+source_of x c = source_at x.layout x.from (c.row - x.target.first.row) (c.col - x.target.first.col)
 
 -- what is written into a cell of that span: the value and the format of its source
-abbrev pub value_of : Layout → Extent → Extent → Sight → Place → Write
-value_of l from target sight c = value_copied sight (source_of l from target c) c
+abbrev pub value_of : ValueCopy → Sight → Place → Write
+value_of x sight c = value_copied sight (source_of x c) c
 
 -- what is written into the span, in row order; all of it is read before
-abbrev pub values_of : Layout → Extent → Extent → Sight → List Write
-values_of l from target sight = map (value_of l from target sight) (cells_of target)
+abbrev pub values_of : ValueCopy → Sight → List Write
+values_of x sight = map (value_of x sight) (cells_of x.target)
 
 -- the values are written into the span
-abbrev pub valued_into : Layout → Extent → Extent → Scene → Sheet → Acted
-valued_into l from target scene s =
-    written (cells_of target) (all_written (values_of l from target (sight_in s)) s) scene s
+abbrev pub valued_into : ValueCopy → Scene → Sheet → Acted
+valued_into x scene s = written (cells_of x.target) (all_written (values_of x (sight_in s)) s) scene s
 
 -- they are, where it lies in the sheet
 abbrev pub valued_onto : Option Extent → Layout → Extent → Scene → Sheet → Acted
 valued_onto None l from scene s = refused (error.OutOfSheet from) s
-valued_onto (Some target) l from scene s = valued_into l from target scene s
+valued_onto (Some target) l from scene s =
+    valued_into (record { layout = l; from = from; target = target }) scene s
 
 -- the values of a span are written from a cell on
 abbrev pub valued_from : Layout → Extent → Place → Scene → Sheet → Acted

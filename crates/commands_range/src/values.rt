@@ -29,6 +29,14 @@ pub enum Layout {
     Turned,
 }
 
+// A copy of values: how they are laid out, the span that they come from, and the span that they go to.
+#[derive(Clone, Copy)]
+struct ValueCopy {
+    layout: Layout,
+    from: Span,
+    target: Span,
+}
+
 // So many rows and columns from a cell on, where they lie in the sheet.
 fn block_at(first: Cell, rows: u16, cols: u16) -> Option<Span>
     requires { (1 ≤ rows) × (1 ≤ cols) }
@@ -85,19 +93,18 @@ fn source_at(layout: Layout, from: Span, down: u16, across: u16) -> Cell
 fn push_value(
     writes: &mut Writes,
     sheet: &Worksheet,
-    layout: Layout,
-    from: Span,
-    target: Span,
+    copy: &ValueCopy,
     down: u16,
     across: u16,
 ) -> Result<(), Memory>
-    requires down { (down < height_of target) × (down < rows_in layout from) }
-    requires across { (across < width_of target) × (across < cols_in layout from) }
+    requires down { (down < height_of copy.now.target) × (down < rows_in copy.now.layout copy.now.from) }
+    requires across { (across < width_of copy.now.target) × (across < cols_in copy.now.layout copy.now.from) }
     ensures { let sight = sight_in (of_worksheet sheet.now) in OnOk result (writes.new
-        ≡ writes.old ++ value_of layout from target sight (inside target down across) ∷ []) }
+        ≡ writes.old ++ value_of copy.now sight (inside copy.now.target down across) ∷ []) }
 {
-    let source = source_at(layout, from, down, across);
-    let write = value_copied(sheet.alloc(), sheet, source, inside(target, down, across))?;
+    let source = source_at(copy.layout, copy.from, down, across);
+    let to = inside(copy.target, down, across);
+    let write = value_copied(sheet.alloc(), sheet, source, to)?;
     writes.push(write)
 }
 
@@ -105,50 +112,44 @@ fn push_value(
 fn push_row(
     writes: &mut Writes,
     sheet: &Worksheet,
-    layout: Layout,
-    from: Span,
-    target: Span,
+    copy: &ValueCopy,
     down: u16,
 ) -> Result<(), Memory>
-    requires down { (down < height_of target) × (down < rows_in layout from) }
-    requires width { width_of target ≡ cols_in layout from }
-    ensures { let sight = sight_in (of_worksheet sheet.now) in let first = target.first in
-        let cells = row_cells (first.row + down) first.col (width_of target) in
-        OnOk result (writes.new ≡ writes.old ++ map (value_of layout from target sight) cells) }
+    requires down { (down < height_of copy.now.target) × (down < rows_in copy.now.layout copy.now.from) }
+    requires width { width_of copy.now.target ≡ cols_in copy.now.layout copy.now.from }
+    ensures { let sight = sight_in (of_worksheet sheet.now) in let first = copy.now.target.first in
+        let cells = row_cells (first.row + down) first.col (width_of copy.now.target) in
+        OnOk result (writes.new ≡ writes.old ++ map (value_of copy.now sight) cells) }
 {
-    let width = target.width();
+    let width = copy.target.width();
     for across in 0..width {
-        push_value(writes, sheet, layout, from, target, down, across)?;
+        push_value(writes, sheet, copy, down, across)?;
     }
     Ok(())
 }
 
 // What is written into the span, in row order.
-fn values_of(sheet: &Worksheet, layout: Layout, from: Span, target: Span) -> Result<Writes, Memory>
-    requires height { height_of target ≡ rows_in layout from }
-    requires width { width_of target ≡ cols_in layout from }
-    ensures { IfOk result (λ writes. writes ≡ values_of layout from target (sight_in (of_worksheet sheet.now))) }
+fn values_of(sheet: &Worksheet, copy: &ValueCopy) -> Result<Writes, Memory>
+    requires height { height_of copy.now.target ≡ rows_in copy.now.layout copy.now.from }
+    requires width { width_of copy.now.target ≡ cols_in copy.now.layout copy.now.from }
+    ensures { let sight = sight_in (of_worksheet sheet.now) in
+        IfOk result (λ writes. writes ≡ values_of copy.now sight) }
 {
     let mut writes = Writes::new(sheet.alloc());
-    let height = target.height();
+    let height = copy.target.height();
     for down in 0..height {
-        push_row(&mut writes, sheet, layout, from, target, down)?;
+        push_row(&mut writes, sheet, copy, down)?;
     }
     Ok(writes)
 }
 
 // The values are written into the span.
-fn valued_into(
-    layout: Layout,
-    from: Span,
-    target: Span,
-    work: &mut Work<'_>,
-) -> Result<CommandEnd, Memory>
-    requires height { height_of target ≡ rows_in layout from }
-    requires width { width_of target ≡ cols_in layout from }
-    ensures { IfOk result (HasActedOn (valued_into layout from target) work.old work.new) }
+fn valued_into(copy: &ValueCopy, work: &mut Work<'_>) -> Result<CommandEnd, Memory>
+    requires height { height_of copy.now.target ≡ rows_in copy.now.layout copy.now.from }
+    requires width { width_of copy.now.target ≡ cols_in copy.now.layout copy.now.from }
+    ensures { IfOk result (HasActedOn (valued_into copy.now) work.old work.new) }
 {
-    let writes = values_of(work.sheet, layout, from, target)?;
+    let writes = values_of(work.sheet, copy)?;
     let answer = work.sheet.write(&writes);
     settled(answer, work.sheet, work.scene, work.tally)
 }
@@ -163,7 +164,14 @@ fn valued_from(
     ensures { IfOk result (HasActedOn (valued_from layout from to) work.old work.new) }
 {
     match target_of(layout, from, to) {
-        Some(target) => valued_into(layout, from, target, work),
+        Some(target) => {
+            let copy = ValueCopy {
+                layout,
+                from,
+                target,
+            };
+            valued_into(&copy, work)
+        }
         None => Ok(CommandEnd::Refused(CommandError::OutOfSheet(from))),
     }
 }

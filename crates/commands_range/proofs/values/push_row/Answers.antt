@@ -11,17 +11,17 @@ use Rattle.commands_range.proofs.values.push_row.Goals as goal
 pub loop-across-init : goal.loop-across-init
 loop-across-init c =
     let sight : Sight = sight_in (of_worksheet c.args.sheet.now) in
-    let f : Place → Write = value_of c.args.layout c.args.from c.args.target sight in (
-      none_of_row f c.args.writes.now (c.args.target.first.row + c.args.down) c.args.target.first.col,
+    let f : Place → Write = value_of c.args.copy.now sight in (
+      none_of_row f c.args.writes.now (c.args.copy.now.target.first.row + c.args.down) c.args.copy.now.target.first.col,
       c.width-width.ensures.width,
     )
 
 pub loop-across-preserved : goal.loop-across-preserved
 loop-across-preserved c =
     let sight : Sight = sight_in (of_worksheet c.args.sheet.now) in
-    let f : Place → Write = value_of c.args.layout c.args.from c.args.target sight in
-    let row : ℕ = c.args.target.first.row + c.args.down in (
-      pushed f c.args.writes.now c.loop-across.writes c.push_value.new.writes row c.args.target.first.col
+    let f : Place → Write = value_of c.args.copy.now sight in
+    let row : ℕ = c.args.copy.now.target.first.row + c.args.down in (
+      pushed f c.args.writes.now c.loop-across.writes c.push_value.new.writes row c.args.copy.now.target.first.col
           c.loop-across.across
           c.loop-across.invariant.0 c.in_ok-push_value.ensures,
       c.loop-across.invariant.1,

@@ -9,5 +9,6 @@ use Rattle.commands_range.proofs.values.push_row.Given as goal
 abbrev pub invariant-loop-across : goal.invariant-loop-across
 invariant-loop-across l =
     (l.writes ≡ l.fn.writes
-    ++ map (value_of l.layout l.from l.target (sight_in (of_worksheet l.sheet)))
-    (row_cells (l.target.first.row + l.down) l.target.first.col l.across)) × (l.width ≡ width_of l.target)
+    ++ map (value_of l.copy (sight_in (of_worksheet l.sheet)))
+    (row_cells (l.copy.target.first.row + l.down) l.copy.target.first.col l.across))
+    × (l.width ≡ width_of l.copy.target)

@@ -20,12 +20,13 @@ pub returns : goal.returns
 returns c =
     let s : Sheet = of_worksheet c.args.work.now.sheet.now in
     let writes : List Write = c.in_ok-writes.writes in
-    let cells : List Place = cells_of c.args.target in
-    let are : List Write = values_of c.args.layout c.args.from c.args.target (sight_in s) in
+    let cells : List Place = cells_of c.args.copy.now.target in
+    let are : List Write = values_of c.args.copy.now (sight_in s) in
     let is : writes ≡ are = c.in_ok-writes.ensures in
     let all : written_cells writes ≡ cells =
-    ap (λ (l : List Write). written_cells l) is ∙ written_are c.args.layout c.args.from c.args.target (sight_in s) in
-    let ascends : Ascends cells = span_ascends c.args.target in
+    ap (λ (l : List Write). written_cells l) is
+    ∙ written_are c.args.copy.now (sight_in s) in
+    let ascends : Ascends cells = span_ascends c.args.copy.now.target in
     if_ok c.settled.result
     (λ end settles. record {
       same = record { sheet = refl; scene = refl; tally = refl };

@@ -14,10 +14,10 @@ loop-down-init c = (c.new-writes.ensures, c.height-height.ensures.height)
 pub loop-down-preserved : goal.loop-down-preserved
 loop-down-preserved c =
     let sight : Sight = sight_in (of_worksheet c.args.sheet.now) in
-    let f : Place → Write = value_of c.args.layout c.args.from c.args.target sight in
-    let cols : ℕ = width_of c.args.target in (
-      joined f c.loop-down.writes c.push_row.new.writes c.args.target.first.row c.args.target.first.col
-          c.loop-down.down cols
+    let f : Place → Write = value_of c.args.copy.now sight in
+    let cols : ℕ = width_of c.args.copy.now.target in (
+      joined f c.loop-down.writes c.push_row.new.writes c.args.copy.now.target.first.row
+          c.args.copy.now.target.first.col c.loop-down.down cols
           c.loop-down.invariant.0 c.in_ok-push_row.ensures,
       c.loop-down.invariant.1,
     )

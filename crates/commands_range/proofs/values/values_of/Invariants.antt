@@ -8,5 +8,6 @@ use Rattle.commands_range.proofs.values.values_of.Given as goal
 
 abbrev pub invariant-loop-down : goal.invariant-loop-down
 invariant-loop-down l =
-    (l.writes ≡ map (value_of l.layout l.from l.target (sight_in (of_worksheet l.sheet)))
-    (block_cells l.target.first.row l.target.first.col l.down (width_of l.target))) × (l.height ≡ height_of l.target)
+    (l.writes ≡ map (value_of l.copy (sight_in (of_worksheet l.sheet)))
+    (block_cells l.copy.target.first.row l.copy.target.first.col l.down (width_of l.copy.target)))
+    × (l.height ≡ height_of l.copy.target)
