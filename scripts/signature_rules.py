@@ -6,7 +6,6 @@ MOST_PARAMETERS = 6
 # The functions that aren't held to this yet, by crate; sheet_run's `run` keeps its signature.
 UNMENDED = {
     "commands_file": "act_named",
-    "data_blocks": "try_row try_cell try_rows",
     "macro_text": "word_outcome",
     "sheet_run": "run",
 }

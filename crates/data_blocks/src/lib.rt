@@ -11,6 +11,7 @@ mod order;
 mod ranges;
 mod rows;
 mod sort;
+mod table;
 mod table_cells;
 mod two_inputs;
 

@@ -5,6 +5,7 @@ ghost use Rattle.data_blocks.specs.Benches.{takes, values_on, HasTaken, HoldsOld
 ghost use Rattle.data_blocks.specs.inner.Failing.{HasFailed};
 ghost use Rattle.data_blocks.specs.Tables.{answer_written, row_answers, shape_fault, scenarios_one, Trial, Scenario};
 
+use crate::table::OneInput;
 use crate::table_cells::{
     cell_across, cell_down, columns_behind, is_no_table, push_answer, rows_below, values_down,
 };
@@ -52,56 +53,44 @@ fn push_row<B: Bench>(
 
 // Tries an input, and adds the answers of its row.
 fn try_row<B: Bench>(
-    alloc: Global,
-    span: Span,
-    input: Cell,
+    table: &OneInput,
     row: u16,
     value: &Value,
     bench: &mut B,
     writes: &mut Writes,
 ) -> Result<(), BlockFault>
-    requires row { row ≤ span.last.row }
-    requires input { takes (B.shows bench.old) input ≡ true }
-    ensures taken { let trial : Trial = record { cell = input; value = value.now } in
-        let turn : Scenario = record { trials = trial ∷ []; answers = row_answers span row } in
+    requires row { row ≤ table.now.span.last.row }
+    requires input { takes (B.shows bench.old) table.now.input ≡ true }
+    ensures taken { let trial : Trial = record { cell = table.now.input; value = value.now } in
+        let turn : Scenario = record { trials = trial ∷ []; answers = row_answers table.now.span row } in
         OnOk result (HasTaken B.shows B.tries (turn ∷ []) bench.old writes.old bench.new writes.new) }
     ensures same { IsSameBench (B.shows bench.old) (B.shows bench.new) }
-    ensures fault { IfErr result (λ f. HasFailed (B.shows bench.old) (input ∷ []) f) }
+    ensures fault { IfErr result (λ f. HasFailed (B.shows bench.old) (table.now.input ∷ []) f) }
 {
-    bench.try_input(input, value)?;
-    push_row(alloc, span, row, bench, writes)?;
+    bench.try_input(table.input, value)?;
+    push_row(table.alloc, table.span, row, bench, writes)?;
     Ok(())
 }
 
 // Tries the input of each row in turn, and adds its answers.
 fn try_rows<B: Bench>(
-    alloc: Global,
-    span: Span,
-    input: Cell,
+    table: &OneInput,
     values: &[Value],
     bench: &mut B,
     writes: &mut Writes,
 ) -> Result<(), BlockFault>
-    requires input { takes (B.shows bench.old) input ≡ true }
+    requires input { takes (B.shows bench.old) table.now.input ≡ true }
     requires values { let before = values_on (B.shows bench.old) in
-        values.now ≡ map (λ row. before (at row span.first.col)) (rows_below span) }
-    ensures taken { let scenarios = scenarios_one span input (values_on (B.shows bench.old)) in
+        values.now ≡ map (λ row. before (at row table.now.span.first.col)) (rows_below table.now.span) }
+    ensures taken { let scenarios = scenarios_one table.now.span table.now.input (values_on (B.shows bench.old)) in
         OnOk result (HasTaken B.shows B.tries scenarios bench.old writes.old bench.new writes.new) }
     ensures same { IsSameBench (B.shows bench.old) (B.shows bench.new) }
-    ensures fault { IfErr result (λ f. HasFailed (B.shows bench.old) (input ∷ []) f) }
+    ensures fault { IfErr result (λ f. HasFailed (B.shows bench.old) (table.now.input ∷ []) f) }
 {
-    let count = rows_below(span);
+    let count = rows_below(table.span);
     for place in 0..count {
-        let row = cell_down(span, place).row;
-        try_row(
-            alloc,
-            span,
-            input,
-            row,
-            &values[usize::from(place)],
-            bench,
-            writes,
-        )?;
+        let row = cell_down(table.span, place).row;
+        try_row(table, row, &values[usize::from(place)], bench, writes)?;
     }
     Ok(())
 }
@@ -135,7 +124,8 @@ pub fn table_one<B: Bench>(
     }
     let values = values_down(alloc, span, bench)?;
     let mut writes = Writes::new(alloc);
-    let tried = try_rows(alloc, span, input, values.as_slice(), bench, &mut writes);
+    let table = OneInput { alloc, span, input };
+    let tried = try_rows(&table, values.as_slice(), bench, &mut writes);
     bench.give_back()?;
     tried?;
     Ok(writes)

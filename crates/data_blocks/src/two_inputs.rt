@@ -6,6 +6,7 @@ ghost use Rattle.data_blocks.specs.Benches.{takes, values_on, HasTaken, HoldsOld
 ghost use Rattle.data_blocks.specs.inner.Failing.{HasFailed};
 ghost use Rattle.data_blocks.specs.Tables.{columns_behind, row_scenarios, shape_fault, scenarios_two, Answer, Trial, Scenario};
 
+use crate::table::TwoInputs;
 use crate::table_cells::{
     cell_across, cell_down, columns_behind, is_no_table, push_answer, rows_below, values_across,
     values_down,
@@ -36,38 +37,32 @@ pub fn shape_two(span: Span, down: Cell, across: Cell) -> Option<BlockFault>
 
 // Tries an input of each kind, and adds the answer of the corner for a cell.
 fn try_cell<B: Bench>(
-    alloc: Global,
-    span: Span,
-    down: Cell,
-    across: Cell,
+    table: &TwoInputs,
     to: Cell,
     first: &Value,
     second: &Value,
     bench: &mut B,
     writes: &mut Writes,
 ) -> Result<(), BlockFault>
-    requires down { takes (B.shows bench.old) down ≡ true }
-    requires across { takes (B.shows bench.old) across ≡ true }
-    ensures taken { let one : Trial = record { cell = down; value = first.now } in
-        let two : Trial = record { cell = across; value = second.now } in
-        let answer : Answer = record { from = span.first; to = to } in
+    requires down { takes (B.shows bench.old) table.now.down ≡ true }
+    requires across { takes (B.shows bench.old) table.now.across ≡ true }
+    ensures taken { let one : Trial = record { cell = table.now.down; value = first.now } in
+        let two : Trial = record { cell = table.now.across; value = second.now } in
+        let answer : Answer = record { from = table.now.span.first; to = to } in
         let turn : Scenario = record { trials = one ∷ two ∷ []; answers = answer ∷ [] } in
         OnOk result (HasTaken B.shows B.tries (turn ∷ []) bench.old writes.old bench.new writes.new) }
     ensures same { IsSameBench (B.shows bench.old) (B.shows bench.new) }
-    ensures fault { IfErr result (λ f. HasFailed (B.shows bench.old) (down ∷ across ∷ []) f) }
+    ensures fault { IfErr result (λ f. HasFailed (B.shows bench.old) (table.now.down ∷ table.now.across ∷ []) f) }
 {
-    bench.try_input(down, first)?;
-    bench.try_input(across, second)?;
-    push_answer(alloc, span.first, to, bench, writes)?;
+    bench.try_input(table.down, first)?;
+    bench.try_input(table.across, second)?;
+    push_answer(table.alloc, table.span.first, to, bench, writes)?;
     Ok(())
 }
 
 // Tries the inputs of the cells of a row in turn, and adds their answers.
 fn try_row<B: Bench>(
-    alloc: Global,
-    span: Span,
-    down: Cell,
-    across: Cell,
+    table: &TwoInputs,
     row: u16,
     first: &Value,
     seconds: &[Value],
@@ -75,64 +70,52 @@ fn try_row<B: Bench>(
     writes: &mut Writes,
 ) -> Result<(), BlockFault>
     ghost values: { Place → Value }
-    requires row { row ≤ span.last.row }
-    requires down { takes (B.shows bench.old) down ≡ true }
-    requires across { takes (B.shows bench.old) across ≡ true }
-    requires first { first.now ≡ values (at row span.first.col) }
-    requires seconds { seconds.now ≡ map (λ col. values (at span.first.row col)) (columns_behind span) }
-    ensures taken { let scenarios = row_scenarios span down across values row in
+    requires row { row ≤ table.now.span.last.row }
+    requires down { takes (B.shows bench.old) table.now.down ≡ true }
+    requires across { takes (B.shows bench.old) table.now.across ≡ true }
+    requires first { first.now ≡ values (at row table.now.span.first.col) }
+    requires seconds { let span = table.now.span in
+        seconds.now ≡ map (λ col. values (at span.first.row col)) (columns_behind span) }
+    ensures taken { let scenarios = row_scenarios table.now.span table.now.down table.now.across values row in
         OnOk result (HasTaken B.shows B.tries scenarios bench.old writes.old bench.new writes.new) }
     ensures same { IsSameBench (B.shows bench.old) (B.shows bench.new) }
-    ensures fault { IfErr result (λ f. HasFailed (B.shows bench.old) (down ∷ across ∷ []) f) }
+    ensures fault { IfErr result (λ f. HasFailed (B.shows bench.old) (table.now.down ∷ table.now.across ∷ []) f) }
 {
-    let count = columns_behind(span);
+    table.span.last.is_on_sheet();
+    let count = columns_behind(table.span);
     for place in 0..count {
-        let col = cell_across(span, place).col;
+        let col = cell_across(table.span, place).col;
         let second = &seconds[usize::from(place)];
-        try_cell(
-            alloc,
-            span,
-            down,
-            across,
-            Cell { row, col },
-            first,
-            second,
-            bench,
-            writes,
-        )?;
+        try_cell(table, Cell { row, col }, first, second, bench, writes)?;
     }
     Ok(())
 }
 
 // Tries the inputs of all cells in turn, row by row, and adds their answers.
 fn try_rows<B: Bench>(
-    alloc: Global,
-    span: Span,
-    down: Cell,
-    across: Cell,
+    table: &TwoInputs,
     firsts: &[Value],
     seconds: &[Value],
     bench: &mut B,
     writes: &mut Writes,
 ) -> Result<(), BlockFault>
     ghost values: { Place → Value }
-    requires down { takes (B.shows bench.old) down ≡ true }
-    requires across { takes (B.shows bench.old) across ≡ true }
-    requires firsts { firsts.now ≡ map (λ row. values (at row span.first.col)) (rows_below span) }
-    requires seconds { seconds.now ≡ map (λ col. values (at span.first.row col)) (columns_behind span) }
-    ensures taken { let scenarios = scenarios_two span down across values in
+    requires down { takes (B.shows bench.old) table.now.down ≡ true }
+    requires across { takes (B.shows bench.old) table.now.across ≡ true }
+    requires firsts { let span = table.now.span in
+        firsts.now ≡ map (λ row. values (at row span.first.col)) (rows_below span) }
+    requires seconds { let span = table.now.span in
+        seconds.now ≡ map (λ col. values (at span.first.row col)) (columns_behind span) }
+    ensures taken { let scenarios = scenarios_two table.now.span table.now.down table.now.across values in
         OnOk result (HasTaken B.shows B.tries scenarios bench.old writes.old bench.new writes.new) }
     ensures same { IsSameBench (B.shows bench.old) (B.shows bench.new) }
-    ensures fault { IfErr result (λ f. HasFailed (B.shows bench.old) (down ∷ across ∷ []) f) }
+    ensures fault { IfErr result (λ f. HasFailed (B.shows bench.old) (table.now.down ∷ table.now.across ∷ []) f) }
 {
-    let count = rows_below(span);
+    let count = rows_below(table.span);
     for place in 0..count {
-        let row = cell_down(span, place).row;
+        let row = cell_down(table.span, place).row;
         try_row(
-            alloc,
-            span,
-            down,
-            across,
+            table,
             row,
             &firsts[usize::from(place)],
             seconds,
@@ -171,11 +154,14 @@ pub fn table_two<B: Bench>(
     let firsts = values_down(alloc, span, bench)?;
     let seconds = values_across(alloc, span, bench)?;
     let mut writes = Writes::new(alloc);
-    let tried = try_rows(
+    let table = TwoInputs {
         alloc,
         span,
         down,
         across,
+    };
+    let tried = try_rows(
+        &table,
         firsts.as_slice(),
         seconds.as_slice(),
         bench,

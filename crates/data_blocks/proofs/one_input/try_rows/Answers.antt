@@ -9,7 +9,7 @@ use Rattle.data_blocks.proofs.one_input.try_rows.Goals as goal
 
 pub bounds-values-from : goal.bounds-values-from
 bounds-values-from g c =
-    let s = c.args.span in
+    let s = c.args.table.now.span in
     let before = values_on (g.B.Bench.shows c.args.bench.now) in
     let f : ℕ → Value = λ (row : ℕ). before (at row s.first.col) in
     let long = ap length c.requires.values ∙ made_count f (s.first.row + 1) (s.last.row - s.first.row) in
@@ -19,7 +19,7 @@ pub loop-place-preserved : goal.loop-place-preserved
 loop-place-preserved g c =
     let shows = g.B.Bench.shows in
     let tries = g.B.Bench.tries in
-    let s = c.args.span in
+    let s = c.args.table.now.span in
     let before = values_on (shows c.args.bench.now) in
     let f : ℕ → Value = λ (row : ℕ). before (at row s.first.col) in
     let n : ℕ = s.first.row + 1 in
@@ -34,11 +34,11 @@ loop-place-preserved g c =
     ∙ made_at f n (s.last.row - s.first.row) k value inside in
     record {
       taken =
-          scenario_more shows tries (row_scenario s c.args.input before) n k c.args.bench.now c.loop-place.bench
-          c.try_row.new.bench c.args.writes.now c.loop-place.writes c.try_row.new.writes
+          scenario_more shows tries (row_scenario s c.args.table.now.input before) n k c.args.bench.now
+          c.loop-place.bench c.try_row.new.bench c.args.writes.now c.loop-place.writes c.try_row.new.writes
           c.loop-place.invariant.taken
           (row_taken shows tries s before c.loop-place.bench c.try_row.new.bench c.loop-place.writes
-          c.try_row.new.writes c.args.input (n + k) c.row.inside.row value row_is value_is
+          c.try_row.new.writes c.args.table.now.input (n + k) c.row.inside.row value row_is value_is
           c.in_ok-try_row.ensures.taken);
       same =
           same_both (shows c.args.bench.now) (shows c.loop-place.bench) (shows c.try_row.new.bench)

@@ -9,9 +9,9 @@ abbrev pub invariant-loop-place : goal.invariant-loop-place
 invariant-loop-place g l =
     let shows = g.B.Bench.shows in record {
       taken : HasTaken shows g.B.Bench.tries
-          (map (row_scenario l.span l.input (values_on (shows l.fn.bench)))
-          (numbers_from (l.span.first.row + 1) l.place))
+          (map (row_scenario l.table.span l.table.input (values_on (shows l.fn.bench)))
+          (numbers_from (l.table.span.first.row + 1) l.place))
           l.fn.bench l.fn.writes l.bench l.writes;
       same : IsSameBench (shows l.fn.bench) (shows l.bench);
-      count : l.count ≡ l.span.last.row - l.span.first.row;
+      count : l.count ≡ l.table.span.last.row - l.table.span.first.row;
     }

@@ -11,7 +11,8 @@ use Rattle.data_blocks.proofs.two_inputs.try_rows.Goals as goal
 
 pub bounds-firsts-from : goal.bounds-firsts-from
 bounds-firsts-from g c =
-    let s = c.args.span in
+    let table = c.args.table.now in
+    let s = table.span in
     let f : ℕ → Value = λ (row : ℕ). g.values (at row s.first.col) in
     let long = ap length c.requires.1.1.1.0 ∙ made_count f (s.first.row + 1) (s.last.row - s.first.row) in
     omega (arith, c.from.ensures, c.loop-place-test.true, c.loop-place.invariant.count, long)
@@ -19,7 +20,8 @@ bounds-firsts-from g c =
 pub try_row-requires : goal.try_row-requires
 try_row-requires g c =
     let shows = g.B.Bench.shows in
-    let s = c.args.span in
+    let table = c.args.table.now in
+    let s = table.span in
     let f : ℕ → Value = λ (row : ℕ). g.values (at row s.first.col) in
     let n : ℕ = s.first.row + 1 in
     let k : ℕ = c.loop-place.place in
@@ -32,10 +34,10 @@ try_row-requires g c =
     ∙ ap (λ (l : List Value). get_or l k value) c.requires.1.1.1.0
     ∙ made_at f n (s.last.row - s.first.row) k value inside in
     let in_sheet : c.row.inside.row ≤ s.last.row = omega (arith, row_is, inside) in
-    let down : takes (shows c.loop-place.bench) c.args.down ≡ true =
-    ap (λ (l : List Place). list_any (same_place c.args.down) l) c.loop-place.invariant.same.inputs ∙ c.requires.1.0 in
-    let across : takes (shows c.loop-place.bench) c.args.across ≡ true =
-    ap (λ (l : List Place). list_any (same_place c.args.across) l) c.loop-place.invariant.same.inputs
+    let down : takes (shows c.loop-place.bench) table.down ≡ true =
+    ap (λ (l : List Place). list_any (same_place table.down) l) c.loop-place.invariant.same.inputs ∙ c.requires.1.0 in
+    let across : takes (shows c.loop-place.bench) table.across ≡ true =
+    ap (λ (l : List Place). list_any (same_place table.across) l) c.loop-place.invariant.same.inputs
     ∙ c.requires.1.1.0 in
     let first : value ≡ f c.row.inside.row = value_is ∙ ap f (sym row_is) in
     let seconds = c.requires.1.1.1.1 in
@@ -45,16 +47,17 @@ pub loop-place-preserved : goal.loop-place-preserved
 loop-place-preserved g c =
     let shows = g.B.Bench.shows in
     let tries = g.B.Bench.tries in
-    let s = c.args.span in
+    let table = c.args.table.now in
+    let s = table.span in
     let n : ℕ = s.first.row + 1 in
     let k : ℕ = c.loop-place.place in
     let row_is : c.row.inside.row ≡ n + k = ap (λ (p : Place). p.row) (c.row.view_is ∙ c.cell_down.ensures) in
     record {
       taken =
-          scenarios_more shows tries (row_scenarios s c.args.down c.args.across g.values) n k c.args.bench.now
+          scenarios_more shows tries (row_scenarios s table.down table.across g.values) n k c.args.bench.now
           c.loop-place.bench c.try_row.new.bench c.args.writes.now c.loop-place.writes c.try_row.new.writes
           c.loop-place.invariant.taken
-          (subst (λ (r : ℕ). HasTaken shows tries (row_scenarios s c.args.down c.args.across g.values r)
+          (subst (λ (r : ℕ). HasTaken shows tries (row_scenarios s table.down table.across g.values r)
           c.loop-place.bench c.loop-place.writes c.try_row.new.bench c.try_row.new.writes) row_is
           c.in_ok-try_row.ensures.taken);
       same =

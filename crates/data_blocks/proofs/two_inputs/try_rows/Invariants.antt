@@ -8,12 +8,14 @@ use Rattle.data_blocks.proofs.two_inputs.try_rows.Given as goal
 -- the scenarios of the rows so far were taken
 abbrev pub invariant-loop-place : goal.invariant-loop-place
 invariant-loop-place g l =
-    let shows = g.B.Bench.shows in record {
+    let shows = g.B.Bench.shows in
+    let table = l.table in record {
       taken : HasTaken shows g.B.Bench.tries
-          (flat_map (row_scenarios l.span l.down l.across g.values) (numbers_from (l.span.first.row + 1) l.place))
+          (flat_map (row_scenarios table.span table.down table.across g.values)
+          (numbers_from (table.span.first.row + 1) l.place))
           l.fn.bench l.fn.writes l.bench l.writes;
       same : IsSameBench (shows l.fn.bench) (shows l.bench);
-      count : l.count ≡ l.span.last.row - l.span.first.row;
+      count : l.count ≡ table.span.last.row - table.span.first.row;
     }
 
 -- the values by which the table was begun
