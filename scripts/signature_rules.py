@@ -5,7 +5,6 @@ import re
 MOST_PARAMETERS = 6
 # The functions that aren't held to this yet, by crate; sheet_run's `run` keeps its signature.
 UNMENDED = {
-    "commands_file": "act_named",
     "macro_text": "word_outcome",
     "sheet_run": "run",
 }

@@ -162,10 +162,16 @@ fn extract<S: Shelf>(
     }
 }
 
+// A command below File, and the answers that it was given.
+#[derive(Clone, Copy)]
+struct FileCommand<'a> {
+    action: FileAction,
+    answers: &'a Answers,
+}
+
 // A command whose first answer is this file's name.
 fn act_named<S: Shelf>(
-    action: FileAction,
-    answers: &Answers,
+    command: &FileCommand<'_>,
     name: FileName,
     desk: &mut Desk,
     shelf: &mut S,
@@ -173,14 +179,15 @@ fn act_named<S: Shelf>(
     tally: &mut Tally,
 ) -> Result<CommandEnd, Memory>
     ensures acted { IfOk result (λ end. HasActedOver
-        (act_named action answers.now name scene.entry.now (of_desk desk.old)) end desk.old desk.new
-        tally.old.count tally.new.count
+        (act_named command.now.action command.now.answers.now name scene.entry.now (of_desk desk.old)) end desk.old
+        desk.new tally.old.count tally.new.count
         (shelf_view (S.holds shelf.old) (S.faults shelf.old)) (shelf_view (S.holds shelf.new) (S.faults shelf.new))) }
     ensures memory { OnErr result (HasBrokenIn
-        (act_named action answers.now name scene.entry.now (of_desk desk.old))
+        (act_named command.now.action command.now.answers.now name scene.entry.now (of_desk desk.old))
         (shelf_view (S.holds shelf.old) (S.faults shelf.old)) (shelf_view (S.holds shelf.new) (S.faults shelf.new))) }
 {
-    match action {
+    let answers = command.answers;
+    match command.action {
         FileAction::Retrieve => retrieve(&name, desk, shelf, scene, tally),
         FileAction::Save => save(name, desk, shelf),
         FileAction::Erase => remove(&name, shelf),
@@ -232,7 +239,10 @@ pub fn act<S: Shelf>(
         (shelf_view (S.holds shelf.old) (S.faults shelf.old)) (shelf_view (S.holds shelf.new) (S.faults shelf.new))) }
 {
     match FileName::of(line_at(answers, 0)) {
-        Some(name) => act_named(action, answers, name, desk, shelf, scene, tally),
+        Some(name) => {
+            let command = FileCommand { action, answers };
+            act_named(&command, name, desk, shelf, scene, tally)
+        }
         None => Ok(CommandEnd::Refused(CommandError::InvalidFileName(0))),
     }
 }

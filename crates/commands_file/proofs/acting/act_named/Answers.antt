@@ -12,8 +12,8 @@ pub returns-in-Save-clause-acted : goal.returns-in-Save-clause-acted
 returns-in-Save-clause-acted g c =
     let n = c.args.tally.now.count in
     subst (λ (a : FileAction). IfOk c.save.result (λ (end : CommandEnd). HasActedOver
-    (act_named a c.args.answers.now c.args.name c.args.scene.now (of_desk c.args.desk.now)) end c.args.desk.now
-    c.save.new.desk n n
+    (act_named a c.args.command.now.answers.now c.args.name c.args.scene.now (of_desk c.args.desk.now)) end
+    c.args.desk.now c.save.new.desk n n
     (shelf_view (g.S.Shelf.holds c.args.shelf.now) (g.S.Shelf.faults c.args.shelf.now))
     (shelf_view (g.S.Shelf.holds c.save.new.shelf) (g.S.Shelf.faults c.save.new.shelf)))) (sym c.in-Save.is)
     (if_ok c.save.result (λ end acted. acted n) c.save.ensures.acted)
@@ -23,7 +23,7 @@ returns-in-XtractFormulas-clause-acted g c =
     let v = c.args.desk.now in
     let n = c.args.tally.now.count in
     subst (λ (a : FileAction). IfOk c.extract.result (λ (end : CommandEnd). HasActedOver
-    (act_named a c.args.answers.now c.args.name c.args.scene.now (of_desk v)) end v v n n
+    (act_named a c.args.command.now.answers.now c.args.name c.args.scene.now (of_desk v)) end v v n n
     (shelf_view (g.S.Shelf.holds c.args.shelf.now) (g.S.Shelf.faults c.args.shelf.now))
     (shelf_view (g.S.Shelf.holds c.extract.new.shelf) (g.S.Shelf.faults c.extract.new.shelf))))
     (sym c.in-XtractFormulas.is)
@@ -35,7 +35,7 @@ returns-in-XtractValues-clause-acted g c =
     let n = c.args.tally.now.count in
     let x = c.extract-in-XtractValues in
     subst (λ (a : FileAction). IfOk x.result (λ (end : CommandEnd). HasActedOver
-    (act_named a c.args.answers.now c.args.name c.args.scene.now (of_desk v)) end v v n n
+    (act_named a c.args.command.now.answers.now c.args.name c.args.scene.now (of_desk v)) end v v n n
     (shelf_view (g.S.Shelf.holds c.args.shelf.now) (g.S.Shelf.faults c.args.shelf.now))
     (shelf_view (g.S.Shelf.holds x.new.shelf) (g.S.Shelf.faults x.new.shelf)))) (sym c.in-XtractValues.is)
     (if_ok x.result (λ end acted. acted n) x.ensures.acted)
