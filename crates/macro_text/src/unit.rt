@@ -138,28 +138,35 @@ fn repeated_outcome(key: Key, number: Option<Fixed>, end: usize, position: &Posi
     }
 }
 
-// What a word comes to that ends at this offset.
+// A word of a text, and the offset behind it.
+#[derive(Clone, Copy)]
+struct ReadWord<'a> {
+    text: &'a [u8],
+    word: MacroWord,
+    end: usize,
+}
+
+// What a word comes to.
 fn word_outcome<K: Look>(
     alloc: Global,
     look: &K,
     scene: &Scene,
     position: &Position,
-    text: &[u8],
-    word: MacroWord,
-    end: usize,
+    read: &ReadWord<'_>,
 ) -> Result<WordOutcome, Memory>
     ensures { let outlook = outlook_of (K.sight look.now) scene.entry.now in
-        IfOk result (λ t. t ≡ spec.word_outcome outlook text.now word end position.now) }
+        IfOk result (λ t. t ≡ spec.word_outcome outlook read.now.text.now read.now.word read.now.end position.now) }
 {
-    match word {
+    let end = read.end;
+    match read.word {
         MacroWord::Key(key) => Ok(WordOutcome::Now(Unit::Key(key), behind(end, position))),
         MacroWord::Repeated(key, cut) => {
-            let number = number_of(alloc, part(text, cut), position.spot.cell, look, scene)?;
+            let number = number_of(alloc, part(read.text, cut), position.spot.cell, look, scene)?;
             Ok(repeated_outcome(key, number, end, position))
         }
         MacroWord::Command(_, _) => Ok(carried(end, position)),
         MacroWord::Call(name, _) => {
-            let name = part(text, name);
+            let name = part(read.text, name);
             Ok(call_outcome(look.names(), name, end, position))
         }
         MacroWord::PlaceCall(_) => Ok(carried(end, position)),
@@ -186,7 +193,12 @@ fn outcome_at<K: Look>(
     let bytes = text.bytes();
     let Spot { cell, offset } = position.spot;
     let (word, end) = kept.word_at(alloc, bytes, offset, cell)?;
-    word_outcome(alloc, look, scene, position, bytes, word, end)
+    let read = ReadWord {
+        text: bytes,
+        word,
+        end,
+    };
+    word_outcome(alloc, look, scene, position, &read)
 }
 
 // A text has at most 240 words, and an end.
