@@ -83,13 +83,10 @@ pub fn of_numbers(function: Function, a: &Value, b: &Value) -> Value
     if let Some(stopped) = stop_two(a, b) {
         return stopped;
     }
-    let Some(x) = number_in(a) else {
-        return Value::Err;
-    };
-    let Some(y) = number_in(b) else {
-        return Value::Err;
-    };
-    answer(numbers_row(function, x, y))
+    match (number_in(a), number_in(b)) {
+        (Some(x), Some(y)) => answer(numbers_row(function, x, y)),
+        _ => Value::Err,
+    }
 }
 
 /// STRING.
@@ -99,13 +96,10 @@ pub fn string_value(alloc: Global, a: &Value, b: &Value) -> Result<Value, Memory
     if let Some(stopped) = stop_two(a, b) {
         return Ok(stopped);
     }
-    let Some(x) = number_in(a) else {
-        return Ok(Value::Err);
-    };
-    let Some(places) = number_in(b) else {
-        return Ok(Value::Err);
-    };
-    in_words(string(alloc, x, places))
+    match (number_in(a), number_in(b)) {
+        (Some(x), Some(places)) => in_words(string(alloc, x, places)),
+        _ => Ok(Value::Err),
+    }
 }
 
 /// REPEAT, LEFT and RIGHT.
@@ -115,13 +109,10 @@ pub fn cut_value(function: Function, a: &Value, b: &Value) -> Result<Value, Memo
     if let Some(stopped) = stop_two(a, b) {
         return Ok(stopped);
     }
-    let Some(text) = text_in(a) else {
-        return Ok(Value::Err);
-    };
-    let Some(count) = number_in(b) else {
-        return Ok(Value::Err);
-    };
-    in_words(cut_row(function, text, count))
+    match (text_in(a), number_in(b)) {
+        (Some(text), Some(count)) => in_words(cut_row(function, text, count)),
+        _ => Ok(Value::Err),
+    }
 }
 
 /// EXACT.
@@ -131,13 +122,10 @@ pub fn exact_value(a: &Value, b: &Value) -> Value
     if let Some(stopped) = stop_two(a, b) {
         return stopped;
     }
-    let Some(first) = text_in(a) else {
-        return Value::Err;
-    };
-    let Some(second) = text_in(b) else {
-        return Value::Err;
-    };
-    truth(first.bytes() == second.bytes())
+    match (text_in(a), text_in(b)) {
+        (Some(first), Some(second)) => truth(first.bytes() == second.bytes()),
+        _ => Value::Err,
+    }
 }
 
 /// DATE and TIME.
@@ -147,16 +135,10 @@ pub fn of_parts(function: Function, a: &Value, b: &Value, c: &Value) -> Value
     if let Some(stopped) = stop_three(a, b, c) {
         return stopped;
     }
-    let Some(x) = number_in(a) else {
-        return Value::Err;
-    };
-    let Some(y) = number_in(b) else {
-        return Value::Err;
-    };
-    let Some(z) = number_in(c) else {
-        return Value::Err;
-    };
-    answer(parts_row(function, x, y, z))
+    match (number_in(a), number_in(b), number_in(c)) {
+        (Some(x), Some(y), Some(z)) => answer(parts_row(function, x, y, z)),
+        _ => Value::Err,
+    }
 }
 
 /// MID.
@@ -166,16 +148,10 @@ pub fn mid_value(a: &Value, b: &Value, c: &Value) -> Result<Value, Memory>
     if let Some(stopped) = stop_three(a, b, c) {
         return Ok(stopped);
     }
-    let Some(text) = text_in(a) else {
-        return Ok(Value::Err);
-    };
-    let Some(start) = number_in(b) else {
-        return Ok(Value::Err);
-    };
-    let Some(count) = number_in(c) else {
-        return Ok(Value::Err);
-    };
-    in_words(mid(text, start, count))
+    match (text_in(a), number_in(b), number_in(c)) {
+        (Some(text), Some(start), Some(count)) => in_words(mid(text, start, count)),
+        _ => Ok(Value::Err),
+    }
 }
 
 /// FIND.
@@ -185,16 +161,10 @@ pub fn find_value(a: &Value, b: &Value, c: &Value) -> Value
     if let Some(stopped) = stop_three(a, b, c) {
         return stopped;
     }
-    let Some(what) = text_in(a) else {
-        return Value::Err;
-    };
-    let Some(text) = text_in(b) else {
-        return Value::Err;
-    };
-    let Some(start) = number_in(c) else {
-        return Value::Err;
-    };
-    answer(find_in(what, text, start))
+    match (text_in(a), text_in(b), number_in(c)) {
+        (Some(what), Some(text), Some(start)) => answer(find_in(what, text, start)),
+        _ => Value::Err,
+    }
 }
 
 /// REPLACE.
@@ -204,19 +174,12 @@ pub fn replace_value(a: &Value, b: &Value, c: &Value, d: &Value) -> Result<Value
     if let Some(stopped) = stop_four(a, b, c, d) {
         return Ok(stopped);
     }
-    let Some(text) = text_in(a) else {
-        return Ok(Value::Err);
-    };
-    let Some(start) = number_in(b) else {
-        return Ok(Value::Err);
-    };
-    let Some(count) = number_in(c) else {
-        return Ok(Value::Err);
-    };
-    let Some(new) = text_in(d) else {
-        return Ok(Value::Err);
-    };
-    in_words(replace(text, start, count, new))
+    match (text_in(a), number_in(b), number_in(c), text_in(d)) {
+        (Some(text), Some(start), Some(count), Some(new)) => {
+            in_words(replace(text, start, count, new))
+        }
+        _ => Ok(Value::Err),
+    }
 }
 
 /// ISNA, ISERR, ISNUMBER and ISSTRING.
