@@ -101,6 +101,7 @@ impl RangeIndex {
     }
 
     /// Whether it is known that no owner has a span which holds the cell. It takes no memory.
+    #[inline(always)]
     pub fn is_unowned(&self, cell: Cell) -> bool
         ensures { result ≡ true → owners_of self.now cell ≡ [] }
     {

@@ -33,6 +33,7 @@ pub fn node_of(cell: Cell, state: &CellState) -> Result<Option<Node>, Memory>
 }
 
 // Offers a formula for a cell, or none.
+#[inline(always)]
 pub fn offer(graph: &mut Graph, cell: Cell, node: Option<Node>) -> Result<(), Memory>
     ensures formulas { graph.new.formulas ≡ graph.old.formulas }
     ensures others { (c : Place) → same_place c cell ≡ false → map.get graph.new.offers c ≡ map.get graph.old.offers c }
@@ -94,6 +95,7 @@ pub fn prepare(
 }
 
 // The graph and the dirty set take what was prepared. It takes no memory.
+#[inline(always)]
 pub fn settle(graph: &mut Graph, dirty: &mut CellSet, cell: Cell, holds_formula: bool)
     ensures graph { graph.new ≡ settled holds_formula graph.old cell }
     ensures dirty { (c : Place) →
