@@ -11,7 +11,7 @@ use sheet_store::{CellState, SavedSheet, Store, Write as Entry, Writes};
 use std::alloc::Global;
 use std::io::Write;
 use std::mem::replace;
-use wk1_file::write;
+use wk1_file::write_parts;
 use work_sheet::Worksheet;
 
 // The pointer in C2, and noon and after on 1 June 1987.
@@ -153,7 +153,8 @@ impl UndoDesk {
     /// Answers a line.
     pub fn answer(&mut self, alloc: Global, line: &[u8], answer: &mut Vec<u8>) -> Result<(), Stop> {
         if line == b"?".as_slice() {
-            let file = write(alloc, &self.sheet.snapshot()?)?;
+            let sheet = &self.sheet;
+            let file = write_parts(alloc, sheet.cells(), sheet.names(), *sheet.settings())?;
             writeln!(answer, "{:016x}", sum_of(file.as_slice()))?;
             return Ok(());
         }

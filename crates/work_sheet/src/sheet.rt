@@ -50,9 +50,7 @@ use sheet_edits::{
     write_evaluated,
 };
 use sheet_shifts::{Shift, names_after, refusal, store_after};
-use sheet_store::{
-    CellState, MOST_WIDTH, Order, SavedSheet, Settings, SheetFault, Store, Write, Writes,
-};
+use sheet_store::{CellState, MOST_WIDTH, Order, Settings, SheetFault, Store, Write, Writes};
 use sheet_undo::Past;
 use std::alloc::Global;
 use std::marker::{Model, PhantomData};
@@ -119,21 +117,6 @@ impl<E: Means> WorksheetOf<E> {
             past: Past::new(alloc),
             with: PhantomData,
         }
-    }
-
-    /// What a file holds of the sheet: its cells and columns, its names and its settings.
-    pub fn snapshot(&self) -> Result<SavedSheet, Memory>
-        ensures grid { IfOk result (λ s. s.store ≡ self.now.grid) }
-        ensures names { IfOk result (λ s. s.names ≡ self.now.names) }
-        ensures settings { IfOk result (λ s. s.settings ≡ self.now.settings) }
-    {
-        let store = self.store.copy()?;
-        let names = self.names.copy()?;
-        Ok(SavedSheet {
-            store,
-            names,
-            settings: self.settings,
-        })
     }
 
     /// The memory that the sheet is in.
