@@ -3,4 +3,4 @@
 
 mod texts;
 
-pub use texts::fault_line;
+pub use texts::{fault_line, plain_line};

@@ -54,8 +54,8 @@ fn function_fault(place: u32, code: u8) -> Line
     line
 }
 
-// A line of these bytes alone.
-fn plain_line(bytes: &[u8]) -> Line
+/// A line of these bytes alone, which are at most 40.
+pub fn plain_line(bytes: &[u8]) -> Line
     requires { length bytes.now ≤ 40 }
     ensures { result ≡ bytes.now }
 {

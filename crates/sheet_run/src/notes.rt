@@ -15,7 +15,7 @@ ghost use Rattle.sheet_run.specs.inner.Telling.{HasWritten, ToldRefused};
 use crate::drive::Ending;
 use crate::opening::NotRead;
 use crate::options::{Options, Start};
-use file_faults::fault_line;
+use file_faults::{fault_line, plain_line};
 use fixed_value::write_short;
 use formula_tree::ValueRef;
 use grid_address::{Cell, decimal_text};
@@ -105,16 +105,6 @@ pub fn tell_refused<N: Notes>(alloc: Global, word: &[u8], notes: &mut N) -> u8
         Ok(line) => tell_line(notes, REFUSED, &line),
         Err(_) => tell_memory(notes),
     }
-}
-
-// A line of these bytes alone.
-fn plain_line(bytes: &[u8]) -> Line
-    requires { length bytes.now ≤ 40 }
-    ensures { result ≡ bytes.now }
-{
-    let mut line = Line::new();
-    line.put_all(bytes);
-    line
 }
 
 // Why a start file isn't read.
