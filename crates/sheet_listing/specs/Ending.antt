@@ -27,6 +27,15 @@ pub record Outside : Type 0 where
   pub lines : Option (List ℕ)
   pub write_faults : ℕ
 
+-- what stands outside: the bytes that are left and how often reading failed, the lines and how often writing failed
+abbrev pub outside : Option (List ℕ) → ℕ → Option (List ℕ) → ℕ → Outside
+outside left read_faults lines write_faults = record {
+  left = left;
+  read_faults = read_faults;
+  lines = lines;
+  write_faults = write_faults;
+}
+
 -- the bytes were read and are a sheet
 abbrev pub IsRead : Outside → Outside → SavedSheet → Type 0
 IsRead before now sheet = (bytes : List ℕ) × Reads before.left bytes now.left × IsFile bytes (Ok sheet)

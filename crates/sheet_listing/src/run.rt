@@ -1,6 +1,6 @@
 // The listing of a worksheet file from its bytes.
 ghost use Rattle.std.specs.Prelude.{ℕ, List, Option, ◌≡◌, ◌≤◌, ◌<◌, ◌++◌, ◌∷◌, [], IfOk, IfErr, OnOk, length, option_map};
-ghost use Rattle.sheet_listing.specs.Ending.{ending_note, note, status_of, word_note, EndsSo, IsNoted, Reads, Runs};
+ghost use Rattle.sheet_listing.specs.Ending.{ending_note, note, outside, status_of, word_note, EndsSo, IsNoted, Reads, Runs};
 ghost use Rattle.sheet_listing.specs.inner.Reading.{HasListed, HasListedSheet, HasReadFailed, IsPut, IsSplit, TookOne};
 ghost use Rattle.sheet_listing.specs.declared.run.ReadFault.TheVariants as fault;
 
@@ -115,18 +115,8 @@ fn list_bytes<L: Notes>(alloc: Global, bytes: &[u8], lines: &mut L) -> Ending
 
 // Reads the bytes and lists them.
 fn list_file<K: Keys, L: Notes>(alloc: Global, file: &mut K, lines: &mut L) -> Ending
-    ensures { EndsSo (record {
-      left = K.left file.old;
-      read_faults = K.faults file.old;
-      lines = L.written lines.old;
-      write_faults = L.faults lines.old;
-    })
-        (record {
-          left = K.left file.new;
-          read_faults = K.faults file.new;
-          lines = L.written lines.new;
-          write_faults = L.faults lines.new;
-        }) result }
+    ensures { EndsSo (outside (K.left file.old) (K.faults file.old) (L.written lines.old) (L.faults lines.old))
+        (outside (K.left file.new) (K.faults file.new) (L.written lines.new) (L.faults lines.new)) result }
 {
     match read_bytes(alloc, file) {
         Ok(bytes) => list_bytes(alloc, bytes.as_slice(), lines),
@@ -219,18 +209,9 @@ pub fn list<K: Keys, L: Notes, N: Notes>(
     lines: &mut L,
     notes: &mut N,
 ) -> u8
-    ensures { Runs (option_map (λ w. w.now) word.entry) (record {
-      left = K.left file.old;
-      read_faults = K.faults file.old;
-      lines = L.written lines.old;
-      write_faults = L.faults lines.old;
-    })
-        (record {
-          left = K.left file.new;
-          read_faults = K.faults file.new;
-          lines = L.written lines.new;
-          write_faults = L.faults lines.new;
-        })
+    ensures { Runs (option_map (λ w. w.now) word.entry)
+        (outside (K.left file.old) (K.faults file.old) (L.written lines.old) (L.faults lines.old))
+        (outside (K.left file.new) (K.faults file.new) (L.written lines.new) (L.faults lines.new))
         (N.written notes.old) (N.written notes.new) (N.faults notes.old) (N.faults notes.new) result }
 {
     match word {
