@@ -62,23 +62,6 @@ fn put_records(
     Ok(())
 }
 
-// The bytes, and what the sheet keeps.
-fn written(
-    alloc: Global,
-    store: &Store,
-    names: &Names,
-    settings: Settings,
-) -> Result<Vec<u8>, Memory>
-    ensures bytes { IfOk result (λ bytes. bytes.items ≡ file_bytes (of_parts store.now names.now settings)) }
-    ensures saved { OnOk result (IsSavedSheet (of_parts store.now names.now settings)) }
-{
-    let mut body = Vec::new(alloc);
-    let mut into = Vec::new(alloc);
-    put_records(alloc, store, names, settings, &mut body, &mut into)?;
-    put_piece(RecordKind::Eof, &[], &mut into)?;
-    Ok(into)
-}
-
 /// The bytes of the worksheet file of a sheet of these cells, names and settings, which are looked at where they are.
 /// Where the bytes are at most 67,108,864, they are the file of this sheet: `read` gives it back.
 pub fn write_parts(
@@ -91,8 +74,11 @@ pub fn write_parts(
     ensures read { IfOk result (λ bytes. length bytes.items ≤ 67108864
         → IsFile bytes.items (Ok (of_parts store.now names.now settings))) }
 {
-    let bytes = written(alloc, store, names, settings)?;
-    Ok(bytes)
+    let mut body = Vec::new(alloc);
+    let mut into = Vec::new(alloc);
+    put_records(alloc, store, names, settings, &mut body, &mut into)?;
+    put_piece(RecordKind::Eof, &[], &mut into)?;
+    Ok(into)
 }
 
 /// The bytes of a sheet's worksheet file. Where they are at most 67,108,864, they are the file of this sheet: `read`
