@@ -22,13 +22,16 @@ use lics_text::{LabelPrefix, Memory, Text};
 use sheet_store::{CellState, Store};
 use std::alloc::Global;
 use wk1_formula::{ERR_BITS, NA_BITS, double_bits, put, put_short, write_code};
-use wk1_records::{RecordKind, begin_record};
+use wk1_records::{
+    BLANK_LENGTH, FORMULA_LENGTH, INTEGER_LENGTH, LABEL_LENGTH, NUMBER_LENGTH, RecordKind,
+    STR_LENGTH, begin_record,
+};
 
 /// Adds the record of a blank cell.
 pub fn put_blank(cell: Cell, state: &CellState, into: &mut Vec<u8>) -> Result<(), Memory>
     ensures { OnOk result (into.new.items ≡ into.old.items ++ piece_bytes (made kind.Blank (head cell state.now))) }
 {
-    begin_record(RecordKind::Blank, 5, cell, state, into)
+    begin_record(RecordKind::Blank, BLANK_LENGTH, cell, state, into)
 }
 
 /// Adds the record of a label.
@@ -43,7 +46,7 @@ pub fn put_label(
         ++ piece_bytes (made kind.Label (head cell state.now ++ prefix_byte prefix ∷ (text.now ++ 0 ∷ [])))) }
 {
     let size = text.bytes().len() as u16;
-    begin_record(RecordKind::Label, 7 + size, cell, state, into)?;
+    begin_record(RecordKind::Label, LABEL_LENGTH + size, cell, state, into)?;
     put(&[prefix.byte()], into)?;
     put(text.bytes(), into)?;
     put(&[0], into)
@@ -60,7 +63,7 @@ pub fn put_text(
         ≡ into.old.items ++ piece_bytes (made kind.Str (head cell state.now ++ (text.now ++ 0 ∷ [])))) }
 {
     let size = text.bytes().len() as u16;
-    begin_record(RecordKind::Str, 6 + size, cell, state, into)?;
+    begin_record(RecordKind::Str, STR_LENGTH + size, cell, state, into)?;
     put(text.bytes(), into)?;
     put(&[0], into)
 }
@@ -102,22 +105,14 @@ fn code_alone(formula: &Formula, cell: Cell, code: &mut Vec<u8>) -> Result<(), M
     write_code(formula, cell, code)
 }
 
-/// Adds the record of a formula.
-pub fn put_formula(
-    cell: Cell,
-    state: &CellState,
-    formula: &Formula,
-    code: &mut Vec<u8>,
-    into: &mut Vec<u8>,
-) -> Result<(), Memory>
-    ensures { OnOk result (into.new.items
-        ≡ into.old.items ++ piece_bytes (formula_piece cell state.now (code_of formula.now cell))) }
+// Adds the record of a formula that has this code.
+fn put_code(cell: Cell, state: &CellState, code: &[u8], into: &mut Vec<u8>) -> Result<(), Memory>
+    requires { length code.now ≤ 65520 }
+    ensures { OnOk result (into.new.items ≡ into.old.items ++ piece_bytes (formula_piece cell state.now code.now)) }
 {
-    code_alone(formula, cell, code)?;
-    let bytes = code.as_slice();
-    let size = bytes.len() as u16;
-    begin_record(RecordKind::Formula, 15 + size, cell, state, into)?;
-    put_computed(state, bytes, into)
+    let size = FORMULA_LENGTH + code.len() as u16;
+    begin_record(RecordKind::Formula, size, cell, state, into)?;
+    put_computed(state, code, into)
 }
 
 // A whole number of -32768 to 32767.
@@ -154,7 +149,7 @@ fn put_integer(
     ensures { OnOk result (into.new.items
         ≡ into.old.items ++ piece_bytes (made kind.Integer (head cell state.now ++ integer_bytes number))) }
 {
-    begin_record(RecordKind::Integer, 7, cell, state, into)?;
+    begin_record(RecordKind::Integer, INTEGER_LENGTH, cell, state, into)?;
     put_short(whole_of(number), into)
 }
 
@@ -168,7 +163,7 @@ fn put_double(
     ensures { OnOk result (into.new.items
         ≡ into.old.items ++ piece_bytes (made kind.Number (head cell state.now ++ to_le_bytes w64 (bits_of number)))) }
 {
-    begin_record(RecordKind::Number, 13, cell, state, into)?;
+    begin_record(RecordKind::Number, NUMBER_LENGTH, cell, state, into)?;
     put(&double_bits(number).to_le_bytes(), into)
 }
 
@@ -200,7 +195,7 @@ fn put_value(cell: Cell, state: &CellState, into: &mut Vec<u8>) -> Result<(), Me
 }
 
 // Adds the records of a formula and of its value.
-fn put_formula_value(
+fn put_formula(
     cell: Cell,
     state: &CellState,
     formula: &Formula,
@@ -211,7 +206,8 @@ fn put_formula_value(
         ++ pieces_bytes (formula_piece cell state.now (code_of formula.now cell)
         ∷ text_pieces cell state.now state.now.value)) }
 {
-    put_formula(cell, state, formula, code, into)?;
+    code_alone(formula, cell, code)?;
+    put_code(cell, state, code.as_slice(), into)?;
     put_value(cell, state, into)
 }
 
@@ -229,7 +225,7 @@ pub fn put_cell(
         ContentRef::Blank => put_blank(cell, state, into),
         ContentRef::Number(number) => put_number(cell, state, number, into),
         ContentRef::Label(prefix, text) => put_label(cell, state, prefix, text, into),
-        ContentRef::Formula(formula) => put_formula_value(cell, state, formula, code, into),
+        ContentRef::Formula(formula) => put_formula(cell, state, formula, code, into),
     }
 }
 

@@ -5,6 +5,7 @@ mod column_marks;
 mod entry;
 mod fault;
 mod kind;
+mod lengths;
 mod meaning;
 mod name_said;
 mod numbers;
@@ -18,6 +19,9 @@ pub use column_marks::ColumnMarks;
 pub use entry::Entry;
 pub use fault::Wk1Fault;
 pub use kind::{RecordKind, kind_of};
+pub use lengths::{
+    BLANK_LENGTH, FORMULA_LENGTH, INTEGER_LENGTH, LABEL_LENGTH, NUMBER_LENGTH, STR_LENGTH,
+};
 pub use meaning::entry_of;
 pub use numbers::{BOF, EOF};
 pub use order::order_byte;

@@ -1,25 +1,17 @@
-use Rattle.std.proofs.Common.{◌≡◌, ◌+◌, ◌++◌, ◌∙◌, OnOk, ap, arith, length, subst}
-use Rattle.std.specs.Int.{to_le_bytes, w16, w64}
+use Rattle.std.proofs.Common.{◌≡◌, ◌++◌, ◌∙◌, OnOk, ap, append_assoc, subst}
 use Rattle.wk1_formula.specs.Written.{code_of}
-use Rattle.wk1_records.specs.Bodies.{head}
-use Rattle.wk1_records.specs.Kinds.{number_of}
-use Rattle.wk1_records.specs.declared.kind.RecordKind.TheVariants as kind
-use Rattle.wk1_file.specs.Saved.{value_bits}
-use Rattle.wk1_file.proofs.Writing.{record_joined}
+use Rattle.wk1_records.specs.Records.{piece_bytes, pieces_bytes}
+use Rattle.wk1_file.specs.Saved.{formula_piece, text_pieces}
 use Rattle.wk1_file.proofs.put_cells.put_formula.Goals as goal
 
 pub returns : goal.returns
 returns c =
-    let place = head c.args.cell c.args.state.now in
-    let code = code_of c.args.formula.now c.args.cell in
-    let is = c.as_slice-bytes.ensures.value ∙ c.in_ok-code_alone.ensures.code in
-    let begun = c.begin_record.new.into.items in
-    let value = to_le_bytes w64 (value_bits c.args.state.now.value) in
-    let rest = value ++ (to_le_bytes w16 (length code) ++ code) in
-    let size = length c.as_slice-bytes.result.now in
-    let same : size ≡ length code = ap length is in
-    let long : 15 + size ≡ length (place ++ rest) = omega (arith, same) in
-    let all = record_joined c.args.into.now.items begun place rest (number_of kind.Formula) (15 + size)
-    c.in_ok-begin_record.ensures long in
-    let parts = ap (λ k. begun ++ (value ++ (to_le_bytes w16 (length k) ++ k))) is in
-    subst (λ l. OnOk c.put_computed.result (c.put_computed.new.into.items ≡ l)) (parts ∙ all) c.put_computed.ensures
+    let cell = c.args.cell in
+    let state = c.args.state.now in
+    let old = c.args.into.now.items in
+    let code = code_of c.args.formula.now cell in
+    let text = pieces_bytes (text_pieces cell state state.value) in
+    let is = c.as_slice.ensures.value ∙ c.in_ok-code_alone.ensures.code in
+    let first = c.in_ok-put_code.ensures ∙ ap (λ k. old ++ piece_bytes (formula_piece cell state k)) is in
+    let all = ap (λ l. l ++ text) first ∙ append_assoc old (piece_bytes (formula_piece cell state code)) text in
+    subst (λ l. OnOk c.put_value.result (c.put_value.new.into.items ≡ l)) all c.put_value.ensures
