@@ -1,2 +1,3 @@
 mod Lining
+mod Passing
 mod Shown

@@ -1,6 +1,7 @@
-ghost use Rattle.std.specs.Prelude.{◌≡◌, ◌≤◌, ℕ, None, IfOk, IfSome, OnOk, OnErr};
+ghost use Rattle.std.specs.Prelude.{◌≡◌, ◌≤◌, ◌+◌, length, option_copied, ℕ, None, Some, IfOk, IfSome, OnOk, OnErr};
 ghost use Rattle.outside_world.specs.Shelf.{HasCause};
-ghost use Rattle.text_channel.specs.Channels.{by_shelf, can_stand, can_write, position_of, size_of, stood, written, HasAttached, HasFinished, given, left_after, HasOpened, HasTaken};
+ghost use Rattle.text_channel.specs.Channels.{by_shelf, can_stand, can_write, left_to_read, moved, position_of, size_of};
+ghost use Rattle.text_channel.specs.Channels.{stood, written, HasAttached, HasFinished, given, left_after, HasOpened, HasTaken};
 ghost use Rattle.text_channel.specs.Channels as spec;
 ghost use Rattle.text_channel.specs.Lines.{next_bytes, next_line};
 
@@ -89,6 +90,32 @@ impl Channel {
         }
     }
 
+    // The bytes that can be read; none exactly where nothing is attached, the access is Write, or the position is the
+    // length.
+    fn left_to_read(&self) -> Option<&[u8]>
+        ensures { option_copied result ≡ left_to_read self.now }
+    {
+        match &self.attached {
+            Some(file) => {
+                if file.access == Access::Write || file.at >= file.bytes.len() {
+                    return None;
+                }
+                Some(file.bytes.bytes().split_at(file.at).1)
+            }
+            None => None,
+        }
+    }
+
+    // The position moves behind so many bytes more.
+    fn pass(&mut self, count: usize)
+        requires { IfSome self.old (λ file. file.at + count ≤ length file.bytes) }
+        ensures { self.new ≡ moved (Some count) self.old }
+    {
+        if let Some(file) = &mut self.attached {
+            file.at += count;
+        }
+    }
+
     /// The next bytes as a text, fewer at the end; bytes below 32 become blanks. The position moves behind them. None
     /// comes, and nothing moves, exactly where nothing is attached, the access is Write, or the position is the length.
     /// After want of memory the channel is as it was.
@@ -98,19 +125,13 @@ impl Channel {
         ensures channel { OnOk result (self.new ≡ left_after (next_bytes count) self.old) }
         ensures kept { OnErr result (self.new ≡ self.old) }
     {
-        match &mut self.attached {
-            Some(file) => {
-                if file.access == Access::Write || file.at >= file.bytes.len() {
-                    return Ok(None);
-                }
-                let left = file.bytes.bytes().split_at(file.at).1;
-                let next = next_bytes(usize::from(count), left);
-                let text = shown_text(alloc, left.split_at(next.text).0)?;
-                file.at += next.passed;
-                Ok(Some(text))
-            }
-            None => Ok(None),
-        }
+        let Some(left) = self.left_to_read() else {
+            return Ok(None);
+        };
+        let next = next_bytes(usize::from(count), left);
+        let text = shown_text(alloc, left.split_at(next.text).0)?;
+        self.pass(next.passed);
+        Ok(Some(text))
     }
 
     /// The bytes up to CR LF, LF alone or the end as a text; bytes below 32 become blanks. The position moves behind
@@ -122,19 +143,13 @@ impl Channel {
         ensures channel { OnOk result (self.new ≡ left_after next_line self.old) }
         ensures kept { OnErr result (self.new ≡ self.old) }
     {
-        match &mut self.attached {
-            Some(file) => {
-                if file.access == Access::Write || file.at >= file.bytes.len() {
-                    return Ok(None);
-                }
-                let left = file.bytes.bytes().split_at(file.at).1;
-                let next = next_line(left);
-                let text = shown_text(alloc, left.split_at(next.text).0)?;
-                file.at += next.passed;
-                Ok(Some(text))
-            }
-            None => Ok(None),
-        }
+        let Some(left) = self.left_to_read() else {
+            return Ok(None);
+        };
+        let next = next_line(left);
+        let text = shown_text(alloc, left.split_at(next.text).0)?;
+        self.pass(next.passed);
+        Ok(Some(text))
     }
 
     /// Puts bytes at the position, over and past the old ones, and moves it behind them. It answers false, and changes
