@@ -12,7 +12,7 @@ ghost use Rattle.value_functions.specs.Values.{text_in};
 
 use crate::items::items_at;
 use crate::rows::{bad, moves};
-use crate::values::{let_value, puts_text};
+use crate::values::{ReadText, let_value, puts_text};
 use crate::{
     KeptQuestion, MacroMenu, Move, Question, Row, Running, Source, Switches, Waiting, Wanted,
 };
@@ -53,10 +53,14 @@ pub fn text_given<K: Look>(
     text: &[u8],
 ) -> Result<Option<Text>, Memory>
     requires { IsText text.now }
-    ensures { let outlook = outlook_from K.Look from.now in
-        IfOk result (λ t. t ≡ text_in (values.let_value outlook at text.now)) }
+    ensures { IfOk result (λ t. t ≡ text_in (values.let_value (outlook_from K.Look from.now) at text.now)) }
 {
-    let value = let_value(from, at, text, None)?;
+    let read = ReadText {
+        at,
+        text,
+        formula: None,
+    };
+    let value = let_value(from, &read)?;
     Ok(text_of(value))
 }
 
@@ -78,8 +82,7 @@ pub fn question_row<K: Look>(
     wanted: Wanted,
     args: &TextList,
 ) -> Result<Row, Memory>
-    ensures { let outlook = outlook_from K.Look from.now in
-        IfOk result (λ r. r ≡ spec.question_row outlook at.now wanted args.now) }
+    ensures { IfOk result (λ r. r ≡ spec.question_row (outlook_from K.Look from.now) at.now wanted args.now) }
 {
     let Some(prompt) = text_given(from, at.cell, args.get(0))? else {
         return Ok(bad());
@@ -171,8 +174,7 @@ fn kept_or_read<K: Look>(
     args: &TextList,
     kept: Option<Fixed>,
 ) -> Result<Option<Fixed>, Memory>
-    ensures { let outlook = outlook_from K.Look from.now in
-        IfOk result (λ n. n ≡ spec.kept_or_read outlook at.now args.now kept) }
+    ensures { IfOk result (λ n. n ≡ spec.kept_or_read (outlook_from K.Look from.now) at.now args.now kept) }
 {
     match kept {
         Some(number) => Ok(Some(number)),
@@ -210,8 +212,7 @@ pub fn indicate_row<K: Look>(
     at: &Spot,
     args: &TextList,
 ) -> Result<Row, Memory>
-    ensures { let outlook = outlook_from K.Look from.now in
-        IfOk result (λ r. r ≡ spec.indicate_row outlook at.now args.now) }
+    ensures { IfOk result (λ r. r ≡ spec.indicate_row (outlook_from K.Look from.now) at.now args.now) }
 {
     if args.len() == 0 {
         return Ok(moves(Move::Indicate(Text::copy_of(from.alloc, b"")?)));

@@ -58,8 +58,7 @@ fn given_in(
 
 // The arguments of the call whose word stands at a place, as its text now stands.
 fn given_at<K: Look>(from: &Source<'_, K>, call: Option<Spot>) -> Result<Option<TextList>, Memory>
-    ensures { let outlook = outlook_from K.Look from.now in
-        IfOk result (λ l. l ≡ spec.given_at outlook call) }
+    ensures { IfOk result (λ l. l ≡ spec.given_at (outlook_from K.Look from.now) call) }
 {
     let Some(spot) = call else {
         return Ok(None);
@@ -108,8 +107,7 @@ fn defined<K: Look>(
     given: &[u8],
 ) -> Result<Option<Write>, Memory>
     requires { IsText given.now }
-    ensures { let outlook = outlook_from K.Look from.now in
-        IfOk result (λ e. e ≡ spec.defined outlook at target.now given.now) }
+    ensures { IfOk result (λ e. e ≡ spec.defined (outlook_from K.Look from.now) at target.now given.now) }
 {
     if ends_in(target, AS_VALUE) {
         let value = expression_value(from.alloc, given, at, from.look, from.scene)?;
@@ -134,8 +132,8 @@ fn defined_all<K: Look>(
     mut targets: &[Text],
     mut given: &[Text],
 ) -> Result<Option<Writes>, Memory>
-    ensures { let outlook = outlook_from K.Look from.now in
-        IfOk result (λ ws. ws ≡ spec.defined_all outlook at targets.entry.now given.entry.now) }
+    ensures { IfOk result
+        (λ ws. ws ≡ spec.defined_all (outlook_from K.Look from.now) at targets.entry.now given.entry.now) }
 {
     let mut writes = Writes::new(from.alloc);
     while let [target, more @ ..] = targets {
@@ -163,8 +161,7 @@ pub fn define_row<K: Look>(
     at: &Spot,
     args: &TextList,
 ) -> Result<Row, Memory>
-    ensures { let outlook = outlook_from K.Look from.now in
-        IfOk result (λ r. r ≡ spec.define_row outlook running.now at.now args.now) }
+    ensures { IfOk result (λ r. r ≡ spec.define_row (outlook_from K.Look from.now) running.now at.now args.now) }
 {
     let call = present_call(running.frames.items());
     let Some(given) = given_at(from, call)? else {

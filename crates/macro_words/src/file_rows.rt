@@ -51,8 +51,7 @@ pub fn asks(at: &Spot, word: FileWord) -> Row
 
 /// OPEN.
 pub fn open_row<K: Look>(from: &Source<'_, K>, at: &Spot, args: &TextList) -> Result<Row, Memory>
-    ensures { let outlook = outlook_from K.Look from.now in
-        IfOk result (λ r. r ≡ spec.open_row outlook at.now args.now) }
+    ensures { IfOk result (λ r. r ≡ spec.open_row (outlook_from K.Look from.now) at.now args.now) }
 {
     let Some(text) = text_given(from, at.cell, args.get(0))? else {
         return Ok(bad());
@@ -68,8 +67,7 @@ pub fn open_row<K: Look>(from: &Source<'_, K>, at: &Spot, args: &TextList) -> Re
 
 /// READ.
 pub fn read_row<K: Look>(from: &Source<'_, K>, at: &Spot, args: &TextList) -> Result<Row, Memory>
-    ensures { let outlook = outlook_from K.Look from.now in
-        IfOk result (λ r. r ≡ spec.read_row outlook at.now args.now) }
+    ensures { IfOk result (λ r. r ≡ spec.read_row (outlook_from K.Look from.now) at.now args.now) }
 {
     let count = count_given(from, at.cell, args.get(0))?;
     let Some(count) = within(0, MAX_LEN as u8, count) else {

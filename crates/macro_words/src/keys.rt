@@ -101,8 +101,7 @@ fn number_or_err(value: &Option<Value>) -> Value
 
 // A line is finished, and put into its cell.
 fn finished_row<K: Look>(from: &Source<'_, K>, at: Cell, question: &Question) -> Result<Row, Memory>
-    ensures { let outlook = outlook_from K.Look from.now in
-        IfOk result (λ r. r ≡ spec.line_row outlook at question.now Key.Enter) }
+    ensures { IfOk result (λ r. r ≡ spec.line_row (outlook_from K.Look from.now) at question.now Key.Enter) }
 {
     let text = question.line.text();
     match question.wanted {
@@ -126,8 +125,7 @@ fn line_row<K: Look>(
     mut question: KeptQuestion,
     key: Key,
 ) -> Result<Row, Memory>
-    ensures { let outlook = outlook_from K.Look from.now in
-        IfOk result (λ r. r ≡ spec.line_row outlook at question key) }
+    ensures { IfOk result (λ r. r ≡ spec.line_row (outlook_from K.Look from.now) at question key) }
 {
     match key {
         Key::Enter => finished_row(from, at, question.question()),
@@ -193,8 +191,7 @@ fn waiting_row<K: Look>(
     waiting: Waiting,
     key: Key,
 ) -> Result<Row, Memory>
-    ensures { let outlook = outlook_from K.Look from.now in
-        IfOk result (λ r. r ≡ spec.waiting_row outlook running.now waiting key) }
+    ensures { IfOk result (λ r. r ≡ spec.waiting_row (outlook_from K.Look from.now) running.now waiting key) }
 {
     match waiting {
         Waiting::Nothing => Ok(awaits(Waiting::Nothing)),
@@ -223,8 +220,7 @@ pub fn key_row<K: Look>(
     waiting: Waiting,
     key: Key,
 ) -> Result<Row, Memory>
-    ensures { let outlook = outlook_from K.Look from.now in
-        IfOk result (λ r. r ≡ spec.key_row outlook running.now waiting key) }
+    ensures { IfOk result (λ r. r ≡ spec.key_row (outlook_from K.Look from.now) running.now waiting key) }
 {
     match key {
         Key::Break | Key::Undo => Ok(awaits(waiting)),

@@ -50,8 +50,7 @@ fn round(repeated: &Loop, value: &Value) -> Move
 
 // The count and the step.
 fn next_count<K: Look>(from: &Source<'_, K>, repeated: &Loop) -> Result<Value, Memory>
-    ensures { let outlook = outlook_from K.Look from.now in
-        IfOk result (λ v. v ≡ spec.next_count outlook repeated.now) }
+    ensures { IfOk result (λ v. v ≡ spec.next_count (outlook_from K.Look from.now) repeated.now) }
 {
     let count = from.look.value(repeated.counter).copy()?;
     binary(from.alloc, Op::Add, &count, &Value::Num(repeated.step))
@@ -59,8 +58,7 @@ fn next_count<K: Look>(from: &Source<'_, K>, repeated: &Loop) -> Result<Value, M
 
 // A loop's next round, or its end.
 fn loop_row<K: Look>(from: &Source<'_, K>, repeated: &Loop) -> Result<Row, Memory>
-    ensures { let outlook = outlook_from K.Look from.now in
-        IfOk result (λ r. r ≡ spec.returned outlook (Some (frame.Loop repeated.now))) }
+    ensures { IfOk result (λ r. r ≡ spec.returned (outlook_from K.Look from.now) (Some (frame.Loop repeated.now))) }
 {
     let count = next_count(from, repeated)?;
     let after = round(repeated, &count);
@@ -70,8 +68,7 @@ fn loop_row<K: Look>(from: &Source<'_, K>, repeated: &Loop) -> Result<Row, Memor
 /// RETURN, and the end of a routine: back to the caller, or on with the loop, whose step is added to its count; in the
 /// first routine the macro stops.
 pub fn return_row<K: Look>(from: &Source<'_, K>, running: &Running) -> Result<Row, Memory>
-    ensures { let outlook = outlook_from K.Look from.now in
-        IfOk result (λ r. r ≡ spec.return_row outlook running.now) }
+    ensures { IfOk result (λ r. r ≡ spec.return_row (outlook_from K.Look from.now) running.now) }
 {
     match running.frames.innermost() {
         None => Ok(moves(Move::Stop)),
@@ -119,8 +116,7 @@ pub fn for_row<K: Look>(
     at: &Spot,
     args: &TextList,
 ) -> Result<Row, Memory>
-    ensures { let outlook = outlook_from K.Look from.now in
-        IfOk result (λ r. r ≡ spec.for_row outlook running.now at.now args.now) }
+    ensures { IfOk result (λ r. r ≡ spec.for_row (outlook_from K.Look from.now) running.now at.now args.now) }
 {
     let Some(counter) = place_of(from.look.names(), args.get(0)) else {
         return Ok(bad());

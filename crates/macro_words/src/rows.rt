@@ -143,8 +143,7 @@ pub fn if_row<K: Look>(
     at: &Spot,
     given: &ReadArguments,
 ) -> Result<Row, Memory>
-    ensures { let outlook = outlook_from K.Look from.now in
-        IfOk result (λ r. r ≡ spec.if_row outlook at.now given.now) }
+    ensures { IfOk result (λ r. r ≡ spec.if_row (outlook_from K.Look from.now) at.now given.now) }
 {
     let text = given.list().get(0);
     let formula = given.formula(0, at.cell);

@@ -174,8 +174,7 @@ pub fn row<K: Look>(
     kept: &mut KeptWords,
     at: &Spot,
 ) -> Result<Row, Memory>
-    ensures { let outlook = outlook_from K.Look from.now in
-        IfOk result (λ r. r ≡ spec.row outlook from.now.global.0 running.now at.now) }
+    ensures { IfOk result (λ r. r ≡ spec.row (outlook_from K.Look from.now) from.now.global.0 running.now at.now) }
 {
     let Some(text) = macro_text(from.look, at.cell) else {
         return Ok(bad());

@@ -89,41 +89,48 @@ fn value_or_bytes(alloc: Global, text: &[u8], value: Option<Value>) -> Result<Va
     }
 }
 
-// The value of a formula; behind `:string`, or where it is none, the bytes.
-fn typed_value<K: Look>(
-    from: &Source<'_, K>,
-    at: Cell,
-    text: &[u8],
-    formula: Option<&Formula>,
-) -> Result<Value, Memory>
-    requires text { IsText text.now }
-    requires formula { IfSome formula (λ f. IsRead at text.now f.now) }
-    ensures { let outlook = outlook_from K.Look from.now in
-        IfOk result (λ v. v ≡ spec.typed_value outlook at text.now) }
-{
-    if ends_in(text, AS_STRING) {
-        return text_value(from.alloc, without(text, AS_STRING));
-    }
-    let value = read_value(from.alloc, text, formula, at, from.look, from.scene)?;
-    value_or_bytes(from.alloc, text, value)
+/// A text in a cell, with its formula where that was read already.
+#[derive(Drop)]
+pub struct ReadText<'a> {
+    pub at: Cell,
+    pub text: &'a [u8],
+    pub formula: Option<&'a Formula>,
 }
 
-/// What LET puts: an ending `:value` is dropped first; behind it `:string`, or no formula, gives the bytes. The text's
-/// formula may have been read already.
-pub fn let_value<K: Look>(
-    from: &Source<'_, K>,
-    at: Cell,
-    text: &[u8],
-    formula: Option<&Formula>,
-) -> Result<Value, Memory>
-    requires text { IsText text.now }
-    requires formula { IfSome formula (λ f. IsRead at text.now f.now) }
-    ensures { let outlook = outlook_from K.Look from.now in
-        IfOk result (λ v. v ≡ spec.let_value outlook at text.now) }
+// The value of a formula; behind `:string`, or where it is none, the bytes.
+fn typed_value<K: Look>(from: &Source<'_, K>, read: &ReadText<'_>) -> Result<Value, Memory>
+    requires text { IsText read.now.text.now }
+    requires formula { IfSome read.now.formula (λ f. IsRead read.now.at read.now.text.now f.now) }
+    ensures { IfOk result (λ v. v ≡ spec.typed_value (outlook_from K.Look from.now) read.now.at read.now.text.now) }
 {
-    if ends_in(text, AS_VALUE) {
-        typed_value(from, at, without(text, AS_VALUE), None)
+    if ends_in(read.text, AS_STRING) {
+        return text_value(from.alloc, without(read.text, AS_STRING));
+    }
+    let value = read_value(
+        from.alloc,
+        read.text,
+        read.formula,
+        read.at,
+        from.look,
+        from.scene,
+    )?;
+    value_or_bytes(from.alloc, read.text, value)
+}
+
+/// What LET puts: an ending `:value` is dropped first; behind it `:string`, or no formula, gives the bytes.
+pub fn let_value<K: Look>(from: &Source<'_, K>, read: &ReadText<'_>) -> Result<Value, Memory>
+    requires text { IsText read.now.text.now }
+    requires formula { IfSome read.now.formula (λ f. IsRead read.now.at read.now.text.now f.now) }
+    ensures { IfOk result (λ v. v ≡ spec.let_value (outlook_from K.Look from.now) read.now.at read.now.text.now) }
+{
+    if ends_in(read.text, AS_VALUE) {
+        let rest = ReadText {
+            at: read.at,
+            text: without(read.text, AS_VALUE),
+            formula: None,
+        };
+        typed_value(from, &rest)
     } else {
-        typed_value(from, at, text, formula)
+        typed_value(from, read)
     }
 }

@@ -10,7 +10,7 @@ ghost use Rattle.at_functions.specs.Numbers.{count_of};
 
 use crate::rows::bad;
 use crate::shown::shown_cell;
-use crate::values::{let_value, puts_one, puts_value};
+use crate::values::{ReadText, let_value, puts_one, puts_value};
 use crate::{Change, Deed, Move, Row, Source, Sweep};
 use fixed_value::Fixed;
 use formula_parts::Look;
@@ -36,8 +36,12 @@ pub fn let_row<K: Look>(
     let Some(cell) = place_of(from.look.names(), args.get(0)) else {
         return Ok(bad());
     };
-    let formula = given.formula(1, at.cell);
-    let value = let_value(from, at.cell, args.get(1), formula)?;
+    let read = ReadText {
+        at: at.cell,
+        text: args.get(1),
+        formula: given.formula(1, at.cell),
+    };
+    let value = let_value(from, &read)?;
     puts_value(from.alloc, cell, &value, Move::Stay)
 }
 
@@ -84,8 +88,7 @@ pub fn put_row<K: Look>(
     at: &Spot,
     given: &ReadArguments,
 ) -> Result<Row, Memory>
-    ensures { let outlook = outlook_from K.Look from.now in
-        IfOk result (λ r. r ≡ spec.put_row outlook at.now given.now) }
+    ensures { IfOk result (λ r. r ≡ spec.put_row (outlook_from K.Look from.now) at.now given.now) }
 {
     let args = given.list();
     let Some(span) = range_of(from.look.names(), args.get(0)) else {
@@ -100,8 +103,12 @@ pub fn put_row<K: Look>(
     let Some(cell) = cell_in(span, col, row) else {
         return Ok(bad());
     };
-    let formula = given.formula(3, at.cell);
-    let value = let_value(from, at.cell, args.get(3), formula)?;
+    let read = ReadText {
+        at: at.cell,
+        text: args.get(3),
+        formula: given.formula(3, at.cell),
+    };
+    let value = let_value(from, &read)?;
     puts_value(from.alloc, cell, &value, Move::Stay)
 }
 
@@ -166,42 +173,29 @@ fn given_count<K: Look>(
 const MOST_PASSES: u8 = 50;
 
 // CONTENTS' width: its third argument, or the column's.
-fn width_given<K: Look>(
-    from: &Source<'_, K>,
-    at: &Spot,
-    args: &TextList,
-    cell: Cell,
-) -> Result<Option<u8>, Memory>
-    ensures { let outlook = outlook_from K.Look from.now in
-        IfOk result
-        (λ n. n ≡ spec.given_count outlook at.now args.now 2 1 MOST_WIDTH (outlook.sight.widths cell.col)) }
+fn asked_width<K: Look>(look: &K, cell: Cell) -> Asked
+    ensures { let widths = (K.sight look.now).widths in
+        result ≡ record { place = 2; low = 1; high = MOST_WIDTH; left_out = widths cell.col } }
 {
-    let asked = Asked {
+    Asked {
         place: 2,
         low: 1,
         high: MOST_WIDTH,
-        left_out: from.look.width(cell.col),
-    };
-    given_count(from, at, args, asked)
+        left_out: look.width(cell.col),
+    }
 }
 
 // CONTENTS' format: its fourth argument, or the cell's.
-fn format_given<K: Look>(
-    from: &Source<'_, K>,
-    at: &Spot,
-    args: &TextList,
-    cell: Cell,
-) -> Result<Option<u8>, Memory>
-    ensures { let outlook = outlook_from K.Look from.now in
-        IfOk result (λ n. n ≡ spec.given_count outlook at.now args.now 3 0 255 (outlook.sight.formats cell)) }
+fn asked_format<K: Look>(look: &K, cell: Cell) -> Asked
+    ensures { let formats = (K.sight look.now).formats in
+        result ≡ record { place = 3; low = 0; high = 255; left_out = formats cell } }
 {
-    let asked = Asked {
+    Asked {
         place: 3,
         low: 0,
         high: 255,
-        left_out: from.look.format(cell).0,
-    };
-    given_count(from, at, args, asked)
+        left_out: look.format(cell).0,
+    }
 }
 
 /// CONTENTS; the sheet's format stands in for the default one.
@@ -210,8 +204,8 @@ pub fn contents_row<K: Look>(
     at: &Spot,
     args: &TextList,
 ) -> Result<Row, Memory>
-    ensures { let outlook = outlook_from K.Look from.now in
-        IfOk result (λ r. r ≡ spec.contents_row outlook from.now.global.0 at.now args.now) }
+    ensures { IfOk result
+        (λ r. r ≡ spec.contents_row (outlook_from K.Look from.now) from.now.global.0 at.now args.now) }
 {
     let Some(target) = place_of(from.look.names(), args.get(0)) else {
         return Ok(bad());
@@ -219,10 +213,10 @@ pub fn contents_row<K: Look>(
     let Some(cell) = place_of(from.look.names(), args.get(1)) else {
         return Ok(bad());
     };
-    let Some(width) = width_given(from, at, args, cell)? else {
+    let Some(width) = given_count(from, at, args, asked_width(from.look, cell))? else {
         return Ok(bad());
     };
-    let Some(byte) = format_given(from, at, args, cell)? else {
+    let Some(byte) = given_count(from, at, args, asked_format(from.look, cell))? else {
         return Ok(bad());
     };
     let text = shown_cell(
@@ -266,8 +260,7 @@ fn condition_given<K: Look>(
     at: &Spot,
     args: &TextList,
 ) -> Result<Option<Option<Formula>>, Memory>
-    ensures { let outlook = outlook_from K.Look from.now in
-        IfOk result (λ f. f ≡ spec.condition_in outlook at.now args.now) }
+    ensures { IfOk result (λ f. f ≡ spec.condition_in (outlook_from K.Look from.now) at.now args.now) }
 {
     if args.len() <= 1 {
         return Ok(Some(None));
@@ -285,8 +278,7 @@ pub fn recalc_row<K: Look>(
     by_columns: bool,
     args: &TextList,
 ) -> Result<Row, Memory>
-    ensures { let outlook = outlook_from K.Look from.now in
-        IfOk result (λ r. r ≡ spec.recalc_row outlook at.now by_columns args.now) }
+    ensures { IfOk result (λ r. r ≡ spec.recalc_row (outlook_from K.Look from.now) at.now by_columns args.now) }
 {
     let Some(span) = range_of(from.look.names(), args.get(0)) else {
         return Ok(bad());
