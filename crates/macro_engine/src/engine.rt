@@ -6,7 +6,7 @@ ghost use Rattle.macro_engine.specs.Catching.{HasCaught};
 ghost use Rattle.macro_engine.specs.Keys as keys;
 ghost use Rattle.macro_engine.specs.Steps as spec;
 ghost use Rattle.macro_engine.specs.Steps.{HasStepped};
-ghost use Rattle.macro_engine.specs.inner.Outcomes.{left_running};
+ghost use Rattle.macro_engine.specs.inner.Outcomes.{end_in, left_by};
 ghost use Rattle.macro_words.specs.Moves.{begun_at};
 ghost use Rattle.work_sheet.specs.Seen.{of_worksheet};
 
@@ -156,12 +156,22 @@ impl Engine {
         }
     }
 
-    // The macro stops behind a step, unless it goes on.
-    fn end_unless(&mut self, goes_on: bool)
-        ensures { self.new ≡ left_running goes_on self.old }
+    // What a step came to; the macro stops behind it, unless it goes on. After `Memory` no macro runs.
+    fn stand_behind(&mut self, outcome: Result<Outcome, Memory>) -> Result<StepEnd, Memory>
+        ensures end { result ≡ end_in outcome }
+        ensures running { self.new ≡ left_by outcome self.old }
     {
-        if !goes_on {
-            self.stop();
+        match outcome {
+            Ok(Outcome { end, goes_on }) => {
+                if !goes_on {
+                    self.stop();
+                }
+                Ok(end)
+            }
+            Err(Memory) => {
+                self.stop();
+                Err(Memory)
+            }
         }
     }
 
@@ -186,16 +196,8 @@ impl Engine {
         let Some(running) = &mut self.running else {
             return Ok(StepEnd::Works);
         };
-        match stepped(running, &mut self.kept, sheet, scene, tally) {
-            Ok(Outcome { end, goes_on }) => {
-                self.end_unless(goes_on);
-                Ok(end)
-            }
-            Err(Memory) => {
-                self.stop();
-                Err(Memory)
-            }
-        }
+        let outcome = stepped(running, &mut self.kept, sheet, scene, tally);
+        self.stand_behind(outcome)
     }
 
     /// A key that the macro takes which waits for one, by the sheet as it now stands: a row of the words that wait.
@@ -217,16 +219,8 @@ impl Engine {
         let Some(running) = &mut self.running else {
             return Ok(StepEnd::Works);
         };
-        match key_stepped(running, key, sheet, scene, tally) {
-            Ok(Outcome { end, goes_on }) => {
-                self.end_unless(goes_on);
-                Ok(end)
-            }
-            Err(Memory) => {
-                self.stop();
-                Err(Memory)
-            }
-        }
+        let outcome = key_stepped(running, key, sheet, scene, tally);
+        self.stand_behind(outcome)
     }
 
     /// The macro that runs does a deed, behind a step that asked for something of a text file: in Automatic mode a
@@ -249,16 +243,8 @@ impl Engine {
             drop(deed);
             return Ok(StepEnd::Works);
         };
-        match deed_stepped(running, deed, sheet, scene, tally) {
-            Ok(Outcome { end, goes_on }) => {
-                self.end_unless(goes_on);
-                Ok(end)
-            }
-            Err(Memory) => {
-                self.stop();
-                Err(Memory)
-            }
-        }
+        let outcome = deed_stepped(running, deed, sheet, scene, tally);
+        self.stand_behind(outcome)
     }
 
     /// Meets an error with this message. Where the macro has a place for errors, it goes on there, in its calls and
