@@ -18,7 +18,7 @@ use Rattle.desk_errors.specs.declared.error.CommandError.{CommandError}
 use Rattle.desk_errors.specs.declared.error.CommandError.TheVariants as error
 use Rattle.formula_parts.specs.declared.look.Scene.{Scene}
 use Rattle.grid_address.specs.Place.{Extent, Place}
-use Rattle.work_sheet.specs.Doing.{Done}
+use Rattle.work_sheet.specs.Doing.{quiet, Done}
 use Rattle.work_sheet.specs.Seen.{Sheet}
 
 -- the error of a block's fault
@@ -51,12 +51,21 @@ abbrev pub unless : Option CommandError → Done → Sheet → Acted
 unless None done s = finished done
 unless (Some e) done s = refused e s
 
+-- why a table is refused: where there is none, or by its shape, or by protection
+abbrev pub refused_by : LastTable → Sheet → Option CommandError
+refused_by table.Nothing s = Some error.InvalidTable
+refused_by (table.One span input) s = refusal span (input ∷ []) s
+refused_by (table.Two span down across) s = refusal span (down ∷ across ∷ []) s
+
+-- what a table does that nothing refuses
+abbrev pub tabled_by : LastTable → Scene → Sheet → Done
+tabled_by table.Nothing scene s = quiet s
+tabled_by (table.One span input) scene s = trying.table_one scene span input s
+tabled_by (table.Two span down across) scene s = trying.table_two scene span down across s
+
 -- a table is made
 abbrev pub made : LastTable → Scene → Sheet → Acted
-made table.Nothing scene s = refused error.InvalidTable s
-made (table.One span input) scene s = unless (refusal span (input ∷ []) s) (trying.table_one scene span input s) s
-made (table.Two span down across) scene s =
-    unless (refusal span (down ∷ across ∷ []) s) (trying.table_two scene span down across s) s
+made t scene s = unless (refused_by t s) (tabled_by t scene s) s
 
 -- a table is the last one
 abbrev pub with_last : LastTable → DeskRanges → DeskRanges

@@ -1,8 +1,7 @@
 // A table is made on a worksheet.
 ghost use Rattle.std.specs.Prelude.{◌≡◌, IfOk, OnOk};
 ghost use Rattle.command_desk.specs.Acting.{HasActedBy};
-ghost use Rattle.data_blocks.specs.declared.ranges.LastTable.TheVariants as table;
-ghost use Rattle.commands_data.specs.TableCommands.{changed_cells, made, refusal_by};
+ghost use Rattle.commands_data.specs.TableCommands.{changed_cells, made, refusal_by, refused_by, tabled_by};
 ghost use Rattle.commands_data.specs.Trying.{table_one, table_two};
 ghost use Rattle.work_sheet.specs.Did.{Did};
 ghost use Rattle.work_sheet.specs.Seen.{of_worksheet};
@@ -39,6 +38,22 @@ fn refusal(
             Some(cell) => Ok(Some(CommandError::Protected(cell))),
             None => Ok(None),
         },
+    }
+}
+
+// Why a table is refused: there is none, or it is by its shape or a protected cell.
+fn refused(table: &LastTable, sheet: &Worksheet) -> Result<Option<CommandError>, Memory>
+    ensures { IfOk result (λ told. told ≡ refused_by table.now (of_worksheet sheet.now)) }
+{
+    match table {
+        LastTable::Nothing => Ok(Some(CommandError::InvalidTable)),
+        LastTable::One(span, input) => {
+            refusal(shape_one(*span, *input), sheet, *span, &[*input])
+        }
+        LastTable::Two(span, down, across) => {
+            let shape = shape_two(*span, *down, *across);
+            refusal(shape, sheet, *span, &[*down, *across])
+        }
     }
 }
 
@@ -93,46 +108,20 @@ fn make_two(
     }
 }
 
-// Makes table 1, where nothing refuses it.
-fn one_made(
-    span: Span,
-    input: Cell,
+// Makes a table that nothing refuses.
+fn make_table(
+    table: &LastTable,
     sheet: &mut Worksheet,
     scene: &Scene,
     tally: &mut Tally,
-) -> Result<CommandEnd, Memory>
-    ensures { IfOk result (λ end. HasActedBy (made (table.One span input) scene.entry.now)
-        end sheet.old sheet.new tally.old.count tally.new.count) }
+) -> Result<(), Memory>
+    ensures { let done = tabled_by table.now scene.entry.now (of_worksheet sheet.old) in
+        OnOk result (Did done sheet.old sheet.new tally.old.count tally.new.count) }
 {
-    let refused = refusal(shape_one(span, input), sheet, span, &[input])?;
-    match refused {
-        Some(error) => Ok(CommandEnd::Refused(error)),
-        None => {
-            make_one(span, input, sheet, scene, tally)?;
-            Ok(CommandEnd::Finished)
-        }
-    }
-}
-
-// Makes table 2, where nothing refuses it.
-fn two_made(
-    span: Span,
-    down: Cell,
-    across: Cell,
-    sheet: &mut Worksheet,
-    scene: &Scene,
-    tally: &mut Tally,
-) -> Result<CommandEnd, Memory>
-    ensures { IfOk result (λ end. HasActedBy (made (table.Two span down across) scene.entry.now)
-        end sheet.old sheet.new tally.old.count tally.new.count) }
-{
-    let refused = refusal(shape_two(span, down, across), sheet, span, &[down, across])?;
-    match refused {
-        Some(error) => Ok(CommandEnd::Refused(error)),
-        None => {
-            make_two(span, down, across, sheet, scene, tally)?;
-            Ok(CommandEnd::Finished)
-        }
+    match table {
+        LastTable::Nothing => Ok(()),
+        LastTable::One(span, input) => make_one(*span, *input, sheet, scene, tally),
+        LastTable::Two(span, down, across) => make_two(*span, *down, *across, sheet, scene, tally),
     }
 }
 
@@ -146,9 +135,9 @@ pub fn make(
     ensures { IfOk result (λ end. HasActedBy (made table.now scene.entry.now)
         end sheet.old sheet.new tally.old.count tally.new.count) }
 {
-    match table {
-        LastTable::Nothing => Ok(CommandEnd::Refused(CommandError::InvalidTable)),
-        LastTable::One(span, input) => one_made(*span, *input, sheet, scene, tally),
-        LastTable::Two(span, down, across) => two_made(*span, *down, *across, sheet, scene, tally),
+    if let Some(error) = refused(table, sheet)? {
+        return Ok(CommandEnd::Refused(error));
     }
+    make_table(table, sheet, scene, tally)?;
+    Ok(CommandEnd::Finished)
 }

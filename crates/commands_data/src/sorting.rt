@@ -1,7 +1,7 @@
 // Sorts.
 ghost use Rattle.std.specs.Prelude.{◌≡◌, IfOk};
 ghost use Rattle.command_desk.specs.Acting.{HasActedBy};
-ghost use Rattle.commands_data.specs.Commands.{is_outside, keys_of, put_in_order, sorted, sorted_by};
+ghost use Rattle.commands_data.specs.Commands.{is_outside, keys_of, sorted, sorted_by};
 ghost use Rattle.std.specs.List.{list_any};
 
 use crate::faults::make_block;
@@ -33,21 +33,6 @@ fn any_outside(range: Span, keys: &[SortKey]) -> bool
     false
 }
 
-// The rows of a range are put in order.
-fn sort_range(
-    range: Span,
-    keys: &[SortKey],
-    sheet: &mut Worksheet,
-    scene: &Scene,
-    tally: &mut Tally,
-) -> Result<CommandEnd, Memory>
-    ensures { IfOk result (λ end. HasActedBy (put_in_order range keys.now scene.entry.now)
-        end sheet.old sheet.new tally.old.count tally.new.count) }
-{
-    let answer = sort_rows(sheet.alloc(), range, keys, sheet);
-    make_block(answer, sheet, scene, tally)
-}
-
 // The rows of a range are put in the order of keys whose columns lie in it.
 fn sort_by(
     range: Span,
@@ -62,7 +47,8 @@ fn sort_by(
     if any_outside(range, keys) {
         return Ok(CommandEnd::Refused(CommandError::KeyOutside));
     }
-    sort_range(range, keys, sheet, scene, tally)
+    let answer = sort_rows(sheet.alloc(), range, keys, sheet);
+    make_block(answer, sheet, scene, tally)
 }
 
 // The rows of a range are put in the order of a key, and of a second where there is one.

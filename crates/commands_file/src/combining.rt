@@ -4,8 +4,7 @@ ghost use Rattle.std.specs.FinMap as map;
 ghost use Rattle.std.specs.List.{list_any};
 ghost use Rattle.command_desk.specs.Acting.{HasActedBy};
 ghost use Rattle.commands_file.specs.Combined.{combined, combined_writes, is_number, is_taken, leaves_sheet};
-ghost use Rattle.commands_file.specs.Combined.{number_held, number_or_err, placed, total, totalled, used_span};
-ghost use Rattle.commands_file.specs.Combined.{write_at, write_of, written_in};
+ghost use Rattle.commands_file.specs.Combined.{number_held, number_or_err, placed, total, totalled, used_span, write_of};
 ghost use Rattle.work_sheet.specs.Seen.{of_worksheet};
 
 use block_writes::{content_of, written};
@@ -159,22 +158,6 @@ fn push_total(
     writes.push(written(cell, content))
 }
 
-// Adds what is written of a file's cell that is taken.
-fn push_taken(
-    writes: &mut Writes,
-    kind: Combining,
-    sheet: &Store,
-    cell: Cell,
-    state: &CellState,
-) -> Result<(), Memory>
-    ensures { OnOk result (writes.new ≡ writes.old ++ write_at kind sheet.now cell state.now) }
-{
-    match kind {
-        Combining::Copy => push_copy(writes, cell, state),
-        Combining::Add | Combining::Subtract => push_total(writes, kind, sheet, cell, state),
-    }
-}
-
 // Adds what is written of a file's cell.
 fn push_write(
     writes: &mut Writes,
@@ -189,9 +172,12 @@ fn push_write(
     if !is_taken(kind, state) {
         return Ok(());
     }
-    match placed(pointer, cell) {
-        Some(to) => push_taken(writes, kind, sheet, to, state),
-        None => Ok(()),
+    let Some(to) = placed(pointer, cell) else {
+        return Ok(());
+    };
+    match kind {
+        Combining::Copy => push_copy(writes, to, state),
+        Combining::Add | Combining::Subtract => push_total(writes, kind, sheet, to, state),
     }
 }
 
@@ -230,23 +216,6 @@ pub(crate) fn pointer_of(sheet: &Worksheet) -> Cell
     sheet.settings().pointer
 }
 
-// A file's cells are written into the sheet.
-fn written_in(
-    kind: Combining,
-    file: &Store,
-    sheet: &mut Worksheet,
-    scene: &Scene,
-    tally: &mut Tally,
-) -> Result<CommandEnd, Memory>
-    ensures { IfOk result (λ end. HasActedBy (written_in kind file.now scene.entry.now)
-        end sheet.old sheet.new tally.old.count tally.new.count) }
-{
-    let pointer = pointer_of(sheet);
-    let writes = combined_writes(kind, file, sheet.cells(), pointer)?;
-    let answer = sheet.write(&writes);
-    settled(answer, sheet, scene, tally)
-}
-
 /// A file's cells are combined with those of the sheet, unless one of them would stand past it: then `OutOfSheet`
 /// carries the span from A1 to the file's last used column and row.
 pub(crate) fn combine(
@@ -263,5 +232,7 @@ pub(crate) fn combine(
     if one_leaves(kind, pointer, file) {
         return Ok(CommandEnd::Refused(CommandError::OutOfSheet(used_span(file))));
     }
-    written_in(kind, file, sheet, scene, tally)
+    let writes = combined_writes(kind, file, sheet.cells(), pointer)?;
+    let answer = sheet.write(&writes);
+    settled(answer, sheet, scene, tally)
 }
