@@ -51,11 +51,15 @@ pub(crate) fn items_line(items: &[Item], highlight: usize) -> Line
     line
 }
 
+// What stands twice before a name.
+const GAP: u8 = b' ';
+
 // Adds a name behind two spaces.
 fn put_set_off(line: &mut Line, name: &[u8])
     ensures { line.new ≡ take MAX_LEN (line.old ++ (codes "  " ++ name.now)) }
 {
-    put_cut(line, b"  ");
+    put_byte(line, GAP);
+    put_byte(line, GAP);
     put_cut(line, name);
 }
 
