@@ -5,13 +5,14 @@ use Rattle.std.specs.FinMap.{find, from_entries, from_entries_push, get, get-fro
 use Rattle.std.specs.List.{list_any, Contains, IsDistinct}
 use Rattle.std.specs.Ordering.{eq_by_cmp}
 use Rattle.std.proofs.Common.{sym, ◌∙◌, ap, subst, arith, inl, inr, ◌⊎◌}
-use Rattle.std.proofs.lemmas.Bool.{cases_Bool, eqb-true, ne_eqb}
+use Rattle.std.proofs.lemmas.Bool.{cases_Bool, eqb-true, false≢true, ne_eqb}
 use Rattle.std.proofs.lemmas.List.{get_or-map, length-map}
 use Rattle.std.proofs.lemmas.Map.Keys.{IsDistinct-from_apart}
 use Rattle.std.proofs.lemmas.Map.Steps.{length-le_from_distinct_below}
 use Rattle.std.proofs.lemmas.Map.Views.{Contains-from_any}
 use Rattle.std.specs.Option.{option_map}
-use Rattle.std.proofs.lemmas.Option.{slice_get-get_or, slice_get-map, slice_get_within}
+use Rattle.std.proofs.lemmas.Option.{none-some, same_Some, slice_get-get_or, slice_get-map, slice_get_within}
+use Rattle.std.proofs.Math.Nat.{suc_inj}
 use Rattle.grid_address.specs.Place.{place_cmp, same_place, InSheet, Place}
 use Rattle.grid_address.proofs.Places.{cells_exact, cells_total, get_inserted, get_removed, place_tied, same_place_is}
 use Rattle.grid_address.proofs.Places.{same_place_itself, same_places}
@@ -20,15 +21,6 @@ use Rattle.cell_maps.specs.Filled.{cell_in, cells_of, filled, item_in, with_item
 use Rattle.cell_maps.specs.inner.Numbering.{AreNumbered}
 use Rattle.cell_maps.specs.declared.held.Held.{Held}
 use Rattle.cell_maps.specs.declared.held.Held.TheVariants as held
-
-same_some : {X : Type 0} {x y : X} → Some x ≡ Some y → x ≡ y
-same_some h = cc
-
-no_some : {X : Type 0} {x : X} → None ≡ Some x → ⊥
-no_some h = absurd cc
-
-same_suc : {i j : ℕ} → suc i ≡ suc j → i ≡ j
-same_suc h = omega (arith, h)
 
 apart : (q c : Place) → (c ≡ q → ⊥) → eq_by_cmp place_cmp q c ≡ false
 apart q c n = elim (cases_Bool (same_place q c)) [
@@ -72,27 +64,27 @@ module _ {T : Type 0} where
 
   item_at : (q : Place) (hs : List (Held T)) (i : ℕ) (h : Held T) → slice_get hs i ≡ Some h → cell_in h ≡ q
       → ((j : ℕ) → slice_get (cells_of hs) j ≡ Some q → j ≡ i) → find place_cmp q (filled hs) ≡ item_in h
-  item_at q [] i h e c u = absurd (no_some e)
+  item_at q [] i h e c u = absurd (none-some _ e)
   item_at q (x ∷ hs) zero h e c u =
-      let is : x ≡ h = same_some e in
+      let is : x ≡ h = same_Some _ _ e in
       here q (cell_in x) (item_in x) (filled hs) (ap cell_in is ∙ c)
       (none_at q hs (λ i k. (let z : suc i ≡ 0 = u (suc i) k in absurd (omega (arith, z))))) ∙ ap item_in is
   item_at q (x ∷ hs) (suc i) h e c u =
       skip q (cell_in x) (item_in x) (filled hs)
       (λ k. (let z : 0 ≡ suc i = u 0 (ap Some k) in absurd (omega (arith, z))))
-      ∙ item_at q hs i h e c (λ j k. same_suc (u (suc j) k))
+      ∙ item_at q hs i h e c (λ j k. suc_inj (u (suc j) k))
 
   beside : (q : Place) (hs : List (Held T)) (i : ℕ) (g : Held T)
       → (cell_in g ≡ q → ⊥) → slice_get (cells_of hs) i ≡ Some (cell_in g)
       → find place_cmp q (filled (set hs i g)) ≡ find place_cmp q (filled hs)
   beside q [] i g n e = refl
   beside q (x ∷ hs) zero g n e = skip q (cell_in g) (item_in g) (filled hs) n
-      ∙ sym (skip q (cell_in x) (item_in x) (filled hs) (λ k. n (sym (same_some e) ∙ k)))
+      ∙ sym (skip q (cell_in x) (item_in x) (filled hs) (λ k. n (sym (same_Some _ _ e) ∙ k)))
   beside q (x ∷ hs) (suc i) g n e =
       under q (cell_in x) (item_in x) (filled (set hs i g)) (filled hs) (beside q hs i g n e)
 
   set_here : (hs : List (Held T)) (i : ℕ) (g h : Held T) → slice_get hs i ≡ Some h → slice_get (set hs i g) i ≡ Some g
-  set_here [] i g h e = absurd (no_some e)
+  set_here [] i g h e = absurd (none-some _ e)
   set_here (x ∷ hs) zero g h e = refl
   set_here (x ∷ hs) (suc i) g h e = set_here hs i g h e
 
@@ -100,13 +92,13 @@ module _ {T : Type 0} where
   pub same_cells : (hs : List (Held T)) (i : ℕ) (g : Held T) → slice_get (cells_of hs) i ≡ Some (cell_in g)
       → cells_of (set hs i g) ≡ cells_of hs
   same_cells [] i g e = refl
-  same_cells (x ∷ hs) zero g e = ap (λ c. c ∷ cells_of hs) (sym (same_some e))
+  same_cells (x ∷ hs) zero g e = ap (λ c. c ∷ cells_of hs) (sym (same_Some _ _ e))
   same_cells (x ∷ hs) (suc i) g e = ap (λ l. cell_in x ∷ l) (same_cells hs i g e)
 
   module _ (bands : Numbers) (hs : List (Held T)) (ok : AreNumbered bands (cells_of hs)) (c : Place)
       (inside : InSheet c) where
     only : (i : ℕ) → number_at bands c ≡ suc i → (j : ℕ) → slice_get (cells_of hs) j ≡ Some c → j ≡ i
-    only i e j k = same_suc (sym (ok.told j c k) ∙ e)
+    only i e j k = suc_inj (sym (ok.told j c k) ∙ e)
 
     -- a cell's number is that of one that is held
     pub within : (i : ℕ) → number_at bands c ≡ suc i → i < length hs
@@ -114,7 +106,7 @@ module _ {T : Type 0} where
 
     -- what is held at a cell's number is that cell
     pub cell_at : (i : ℕ) (d : Held T) → number_at bands c ≡ suc i → cell_in (get_or hs i d) ≡ c
-    cell_at i d e = same_some (sym (slice_get-map cell_in hs i
+    cell_at i d e = same_Some _ _ (sym (slice_get-map cell_in hs i
         ∙ ap (λ o. option_map cell_in o) (slice_get-get_or hs i d (within i e))) ∙ ok.found c i inside e)
 
     -- a cell with a number has the item that is held there
@@ -147,12 +139,9 @@ module _ {T : Type 0} where
               ∙ item_at c (set hs i g) i g (set_here hs i g (get_or hs i g) (slice_get-get_or hs i g (within i e))) is
               (λ j k. only i e j (subst (λ l. slice_get l j ≡ Some c) (same_cells hs i g at) k))
               ∙ ap (λ b. cond b (item_in g) (find place_cmp q (filled hs))) (sym t)
-          | inr f ↦ beside q hs i g (λ k. false_true (sym f ∙ ap (λ x. same_place x c) (sym k ∙ is)
+          | inr f ↦ beside q hs i g (λ k. false≢true (sym f ∙ ap (λ x. same_place x c) (sym k ∙ is)
               ∙ same_place_itself c)) at ∙ ap (λ b. cond b (item_in g) (find place_cmp q (filled hs))) (sym f)
         ]
-      where
-        false_true : false ≡ true → ⊥
-        false_true h = absurd cc
 
     -- an item put in where a cell is held
     pub put_in : (i : ℕ) (x : T) → number_at bands c ≡ suc i
@@ -192,8 +181,8 @@ module _ {T : Type 0} where
 -- an item of a list with one more is one of the list, or the last
 pub last_or : (xs : List Place) (x y : Place) (i : ℕ) → slice_get (xs ++ x ∷ []) i ≡ Some y
     → (slice_get xs i ≡ Some y) ⊎ ((i ≡ length xs) × (x ≡ y))
-last_or [] x y zero h = inr (refl, same_some h)
-last_or [] x y (suc i) h = absurd (no_some h)
+last_or [] x y zero h = inr (refl, same_Some _ _ h)
+last_or [] x y (suc i) h = absurd (none-some _ h)
 last_or (z ∷ xs) x y zero h = inl h
 last_or (z ∷ xs) x y (suc i) h = with (last_or xs x y i h)
   where
@@ -204,7 +193,7 @@ last_or (z ∷ xs) x y (suc i) h = with (last_or xs x y i h)
 
 -- an item of a list stands at its place in a longer one
 pub longer : (xs zs : List Place) (y : Place) (i : ℕ) → slice_get xs i ≡ Some y → slice_get (xs ++ zs) i ≡ Some y
-longer [] zs y i h = absurd (no_some h)
+longer [] zs y i h = absurd (none-some _ h)
 longer (x ∷ xs) zs y zero h = h
 longer (x ∷ xs) zs y (suc i) h = longer xs zs y i h
 
@@ -225,7 +214,7 @@ number_last old new cells c ok inside z h = record {
     | inl t ↦
         let n : suc (length cells) ≡ suc i = sym (ap (λ b. cond b (suc (length cells)) (number_at old d)) t)
         ∙ sym (h d hd) ∙ k in
-        subst (λ j. slice_get (cells ++ c ∷ []) j ≡ Some d) (same_suc n)
+        subst (λ j. slice_get (cells ++ c ∷ []) j ≡ Some d) (suc_inj n)
         (last_is cells c ∙ ap Some (same_place_is c d t))
     | inr f ↦ longer cells (c ∷ []) d i
         (ok.found d i hd (sym (ap (λ b. cond b (suc (length cells)) (number_at old d)) f) ∙ sym (h d hd) ∙ k))

@@ -1,4 +1,5 @@
 pub mod Above
 pub mod Filled
+pub mod Members
 pub mod Tables
 pub mod Sets

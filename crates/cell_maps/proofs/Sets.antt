@@ -1,34 +1,20 @@
 -- What a set of numbered cells has, and what it has after a cell is taken out.
-use Rattle.std.specs.Prelude.{ℕ, suc, zero, ◌≡◌, ◌<◌, ◌≤◌, ◌++◌, ◌||◌, Bool, cond, refl, true, false, List, [], ◌∷◌}
-use Rattle.std.specs.Prelude.{length, take, get_or, set, slice_get, nat_eq, nat_lt, Some, None}
+use Rattle.std.specs.Prelude.{ℕ, suc, zero, ◌≡◌, ◌<◌, ◌≤◌, ◌++◌, ◌||◌, cond, refl, true, false, List, [], ◌∷◌}
+use Rattle.std.specs.Prelude.{length, take, get_or, set, slice_get, nat_eq, nat_lt, Some}
 use Rattle.std.specs.List.{AllByRecursion, IsDistinct}
 use Rattle.std.proofs.Common.{sym, ◌∙◌, ap, subst, arith, inl, inr, ◌⊎◌}
 use Rattle.std.proofs.lemmas.Bool.{cases_Bool, eq-eqb, eqb-true, false≢true, false_from_ne_true, ltb-false, ltb-true}
 use Rattle.std.proofs.lemmas.Map.Keys.{IsDistinct-from_apart}
-use Rattle.std.proofs.lemmas.Option.{slice_get-get_or, slice_get_within}
+use Rattle.std.proofs.lemmas.Option.{none-some, same_Some, slice_get-get_or, slice_get_within}
+use Rattle.std.proofs.Math.Nat.{suc_inj}
+use Rattle.std.proofs.Math.Bool.{or-true}
+use Rattle.list_lemmas.proofs.Booleans.{same_from_both}
 use Rattle.grid_address.specs.Place.{same_place, InSheet, Place}
 use Rattle.grid_address.proofs.Places.{same_place_is, same_place_itself, same_place_laws}
 use Rattle.cell_maps.specs.inner.Numbering.{AreNumbered}
 use Rattle.cell_maps.specs.Numbers.{head_of, number_at, number_in, place_of, HasRoom, Numbers}
 use Rattle.cell_maps.specs.Sets.{has}
 use Rattle.cell_maps.proofs.Filled.{last_is, last_or, longer}
-
-same_some : {x y : Place} → Some x ≡ Some y → x ≡ y
-same_some h = cc
-
-no_some : {x : Place} → None ≡ Some x → ⊥
-no_some h = absurd cc
-
-same_suc : {i j : ℕ} → suc i ≡ suc j → i ≡ j
-same_suc h = omega (arith, h)
-
-both_ways : (a b : Bool) → (a ≡ true → b ≡ true) → (b ≡ true → a ≡ true) → a ≡ b
-both_ways true b f g = sym (f refl)
-both_ways false b f g = sym (false_from_ne_true b (λ h. false≢true (g h)))
-
-or_true : (b : Bool) → (b || true) ≡ true
-or_true true = refl
-or_true false = refl
 
 -- a member has a place in the list
 pub at_some : (cells : List Place) (c : Place) → has same_place cells c ≡ true → (i : ℕ) × (slice_get cells i ≡ Some c)
@@ -42,9 +28,10 @@ at_some (x ∷ xs) c h = with (cases_Bool (same_place c x)) (λ k. at_some xs c 
 
 -- and what has a place is a member
 pub has_at : (cells : List Place) (i : ℕ) (c : Place) → slice_get cells i ≡ Some c → has same_place cells c ≡ true
-has_at [] i c e = absurd (no_some e)
-has_at (x ∷ xs) zero c e = ap (λ b. b || has same_place xs c) (ap (same_place c) (same_some e) ∙ same_place_itself c)
-has_at (x ∷ xs) (suc i) c e = ap (λ b. same_place c x || b) (has_at xs i c e) ∙ or_true (same_place c x)
+has_at [] i c e = absurd (none-some _ e)
+has_at (x ∷ xs) zero c e =
+    ap (λ b. b || has same_place xs c) (ap (same_place c) (same_Some _ _ e) ∙ same_place_itself c)
+has_at (x ∷ xs) (suc i) c e = ap (λ b. same_place c x || b) (has_at xs i c e) ∙ or-true (same_place c x)
 
 -- none of the cells before one is the same, where no cell stands twice
 pub fresh : (cells : List Place) (i : ℕ) (c : Place) → IsDistinct same_place cells → i < length cells
@@ -217,7 +204,7 @@ module _ (old mid new : Numbers) (cells : List Place) (at : ℕ) (c last : Place
       with (inl t) (inl w) =
           let e : j ≡ at = eqb-true j at t in
           let lt : at < length cells = ltb-true at (length cells) w in
-          inl (e, (same_some (sym k ∙ ap (slice_get (set cells at last)) e ∙ set_here cells at last lt), lt))
+          inl (e, (same_Some _ _ (sym k ∙ ap (slice_get (set cells at last)) e ∙ set_here cells at last lt), lt))
       with (inl t) (inr w) =
           let e : j ≡ at = eqb-true j at t in
           let le : length cells ≤ at = ltb-false at (length cells) w in
@@ -246,7 +233,7 @@ module _ (old mid new : Numbers) (cells : List Place) (at : ℕ) (c last : Place
           let was = ok.told j d (longer cells (last ∷ []) d j e.1) in
           let w = slice_get_within cells j d e.1 in
           number_beside d (ok.inside j d (longer cells (last ∷ []) d j e.1))
-          (λ same. e.0 (same_suc (sym was ∙ ap (number_at old) (sym same) ∙ here)))
+          (λ same. e.0 (suc_inj (sym was ∙ ap (number_at old) (sym same) ∙ here)))
           (λ same. (let n : suc j ≡ suc (length cells) = sym was ∙ ap (number_at old) (sym same) ∙ end in
           absurd (omega (arith, n, w)))) ∙ was
 
@@ -260,13 +247,13 @@ module _ (old mid new : Numbers) (cells : List Place) (at : ℕ) (c last : Place
             | inr e ↦ absurd (alive (sym e.1 ∙ same))
           ] in
           let n : suc j ≡ suc at = sym k ∙ ap (number_at new) (sym same) ∙ number_of_last w in
-          ap (slice_get (set cells at last)) (same_suc n) ∙ set_here cells at last w ∙ ap Some same
+          ap (slice_get (set cells at last)) (suc_inj n) ∙ set_here cells at last w ∙ ap Some same
       found d j on k (inr f) =
           let alive = not_gone d j on k in
           let other : (last ≡ d → ⊥) =
           (λ e. false≢true (sym f ∙ ap (same_place last) (sym e) ∙ same_place_itself last)) in
           let was : number_at old d ≡ suc j = sym (number_beside d on alive other) ∙ k in
-          let n : (j ≡ at → ⊥) = (λ e. alive (same_some (sym (ok.found c at on_sheet here)
+          let n : (j ≡ at → ⊥) = (λ e. alive (same_Some _ _ (sym (ok.found c at on_sheet here)
           ∙ ap (slice_get (cells ++ last ∷ [])) (sym e) ∙ ok.found d j on was))) in
           elim (last_or cells last d j (ok.found d j on was)) [
             | inl e ↦ set_beside cells at j last n ∙ e
@@ -276,7 +263,7 @@ module _ (old mid new : Numbers) (cells : List Place) (at : ℕ) (c last : Place
   -- the members are the others
   pub others : (d : Place)
       → has same_place (set cells at last) d ≡ cond (same_place c d) false (has same_place (cells ++ last ∷ []) d)
-  others d = both_ways _ _ forth back
+  others d = same_from_both _ _ forth back
     where
       forth : has same_place (set cells at last) d ≡ true
           → cond (same_place c d) false (has same_place (cells ++ last ∷ []) d) ≡ true

@@ -2,6 +2,7 @@
 use Rattle.std.specs.Prelude.{ℕ, ◌≡◌, refl, OnErr, OnOk, Option, None, Some, Result, Ok, Err}
 use Rattle.std.specs.Option.{ForSome}
 use Rattle.std.proofs.Common.{subst}
+use Rattle.std.proofs.lemmas.Result.{on_ok_weaker}
 use Rattle.command_desk.proofs.Edited.{edit_acted, was_refused}
 use Rattle.command_desk.specs.Acting.{HasActed, HasSettled}
 use Rattle.command_desk.specs.declared.ending.CommandEnd.{CommandEnd}
@@ -10,7 +11,6 @@ use Rattle.commands_range.specs.Commands.{copied_onto}
 use Rattle.desk_errors.specs.declared.error.CommandError.TheVariants as error
 use Rattle.formula_parts.specs.declared.look.Scene.{Scene}
 use Rattle.grid_address.specs.Place.{is_within, Extent}
-use Rattle.sheet_edits.proofs.Gathering.{on_ok}
 use Rattle.sheet_edits.specs.Spans.{IsAnswered}
 use Rattle.sheet_store.specs.declared.writes.SheetFault.{SheetFault}
 use Rattle.sheet_store.specs.declared.writes.SheetFault.TheVariants as fault
@@ -38,4 +38,4 @@ copy_acted None from scene v mid w m n answer end outside answered did kept sett
     record { end = was.0; did = was.1 }
 copy_acted (Some t) from scene v mid w m n answer end outside answered did kept settles =
     edit_acted (cells_of t) (is_within t) (span_ascends t) (has_cells t) (copied from t) scene v mid w m n
-    answer end (answered t refl) (on_ok answer (λ d. d t refl) did) kept settles
+    answer end (answered t refl) (on_ok_weaker answer (λ d. d t refl) did) kept settles

@@ -9,6 +9,7 @@ use Rattle.std.specs.Map.{keys_of, lookup}
 use Rattle.std.specs.declared.cmp.Ordering.TheVariants.{Less}
 use Rattle.std.proofs.Common.{sym, ◌∙◌, ap, subst, inl, inr}
 use Rattle.std.proofs.lemmas.Bool.{cases_Bool, true≢false, false≢true}
+use Rattle.std.proofs.lemmas.Option.{none-some, same_Some}
 use Rattle.grid_address.proofs.Maps.{equal_of, get_entries, get_lookup, in_order}
 use Rattle.grid_address.proofs.Places.{cells_exact, cells_total, same_place_is, same_places}
 use Rattle.grid_address.specs.Place.{place_cmp, same_place, Extent, Place}
@@ -88,16 +89,10 @@ apart_not : (x : Bool) → x ≡ not x → ⊥
 apart_not true e = true≢false e
 apart_not false e = false≢true e
 
-some_is : {X : Type 0} (x y : X) → Some x ≡ Some y → x ≡ y
-some_is x y h = cc
-
-none_some : {X : Type 0} (x : X) → None ≡ Some x → ⊥
-none_some x h = absurd cc
-
 -- where there are no slots, all of their spans are registered
 pub none_registered : (m : Slots) (even odd : Owners) → m ≡ empty → AreRegistered m even odd
 none_registered m even odd e c s h =
-    absurd (none_some s (sym (ap (λ (n : Slots). get n c) e ∙ get-empty place_cmp c) ∙ h))
+    absurd (none-some s (sym (ap (λ (n : Slots). get n c) e ∙ get-empty place_cmp c) ∙ h))
 
 module _ (m : Slots) (even odd even' odd' : Owners) (b : Bool) (c : Place)
     (kept : AreOthersKept even odd even' odd' b c) (all : AreRegistered m even odd) where
@@ -130,14 +125,14 @@ module _ (m : Slots) (even odd even' odd' : Owners) (b : Bool) (c : Place)
 
   unoffered : (o : Option Slot) → get m c ≡ o → b ≡ not (side o) → (s : Slot) → without Offer o ≡ Some s
       → IsRegistered even' odd' c s
-  unoffered None e other s h = absurd (none_some s h)
+  unoffered None e other s h = absurd (none-some s h)
   unoffered (Some x) e other s h = with x.node (node_stands x e other) h
     where
       with : (o : Option Node) → Stands o (spans_at even' odd' x.is_odd c)
           → filled o (record x { node = o; offer = None }) ≡ Some s → IsRegistered even' odd' c s
-      with None n h = absurd (none_some s h)
+      with None n h = absurd (none-some s h)
       with (Some k) n h =
-          subst (λ (t : Slot). IsRegistered even' odd' c t) (some_is _ _ h) (record { node = n; offer = tt })
+          subst (λ (t : Slot). IsRegistered even' odd' c t) (same_Some _ _ h) (record { node = n; offer = tt })
 
   -- without its offer, where the other index changed
   pub unoffered_registered : b ≡ not (side (get m c)) → AreRegistered (placed m c (without Offer (get m c))) even' odd'
@@ -145,14 +140,14 @@ module _ (m : Slots) (even odd even' odd' : Owners) (b : Bool) (c : Place)
 
   unformed : (o : Option Slot) → get m c ≡ o → b ≡ side o → (s : Slot) → without Formula o ≡ Some s
       → IsRegistered even' odd' c s
-  unformed None e own s h = absurd (none_some s h)
+  unformed None e own s h = absurd (none-some s h)
   unformed (Some x) e own s h = with x.offer (offer_stands x e own) h
     where
       with : (o : Option Node) → Stands o (spans_at even' odd' (not x.is_odd) c)
           → filled o (record x { node = None; offer = o }) ≡ Some s → IsRegistered even' odd' c s
-      with None n h = absurd (none_some s h)
+      with None n h = absurd (none-some s h)
       with (Some k) n h =
-          subst (λ (t : Slot). IsRegistered even' odd' c t) (some_is _ _ h) (record { node = tt; offer = n })
+          subst (λ (t : Slot). IsRegistered even' odd' c t) (same_Some _ _ h) (record { node = tt; offer = n })
 
   -- without its formula, where its own index changed
   pub unformed_registered : b ≡ side (get m c) → AreRegistered (placed m c (without Formula (get m c))) even' odd'
@@ -160,14 +155,14 @@ module _ (m : Slots) (even odd even' odd' : Owners) (b : Bool) (c : Place)
 
   turned_here : (o : Option Slot) → get m c ≡ o → is_some (had offer_in o) ≡ true → b ≡ side o → (s : Slot)
       → turned o ≡ Some s → IsRegistered even' odd' c s
-  turned_here None e some own s h = absurd (none_some s h)
+  turned_here None e some own s h = absurd (none-some s h)
   turned_here (Some x) e some own s h = with x.offer some (offer_stands x e own) h
     where
       with : (o : Option Node) → is_some o ≡ true → Stands o (spans_at even' odd' (not x.is_odd) c)
           → Some (turned_to o x) ≡ Some s → IsRegistered even' odd' c s
       with None some n h = absurd (true≢false (sym some))
       with (Some k) some n h =
-          subst (λ (t : Slot). IsRegistered even' odd' c t) (some_is _ _ h) (record { node = n; offer = tt })
+          subst (λ (t : Slot). IsRegistered even' odd' c t) (same_Some _ _ h) (record { node = n; offer = tt })
 
   -- with its offer for its formula, where its own index changed
   pub turned_registered : is_some (had offer_in (get m c)) ≡ true → b ≡ side (get m c)
@@ -176,9 +171,9 @@ module _ (m : Slots) (even odd even' odd' : Owners) (b : Bool) (c : Place)
 
   offering_here : (o : Option Slot) (n : Node) → get m c ≡ o → b ≡ not (side o) → spans_at even' odd' b c ≡ wide n.reads
       → (s : Slot) → Some (offering o n) ≡ Some s → IsRegistered even' odd' c s
-  offering_here None n e other is s h = subst (λ (t : Slot). IsRegistered even' odd' c t) (some_is _ _ h)
+  offering_here None n e other is s h = subst (λ (t : Slot). IsRegistered even' odd' c t) (same_Some _ _ h)
       (record { node = tt; offer = subst (λ x. spans_at even' odd' x c ≡ wide n.reads) other is })
-  offering_here (Some x) n e other is s h = subst (λ (t : Slot). IsRegistered even' odd' c t) (some_is _ _ h)
+  offering_here (Some x) n e other is s h = subst (λ (t : Slot). IsRegistered even' odd' c t) (same_Some _ _ h)
       (record { node = node_stands x e other; offer = subst (λ y. spans_at even' odd' y c ≡ wide n.reads) other is })
 
   -- with an offer whose spans are in the other index

@@ -5,10 +5,10 @@ use Rattle.std.specs.FinMap.{empty, get, get-empty, insert}
 use Rattle.std.specs.Global.{Vec}
 use Rattle.std.specs.List.{filter}
 use Rattle.std.proofs.Common.{sym, ◌∙◌, ap, subst, inl, inr, arith, get_or}
-use Rattle.std.proofs.lemmas.Bool.{and_parts, cases_Bool, false≢true, or_cases, or_left, or_right}
-use Rattle.std.proofs.lemmas.Bool.Decides.{nat_tests}
+use Rattle.std.proofs.lemmas.Bool.{and_parts, cases_Bool, false≢true, leb-true, or_cases, or_left, or_right}
 use Rattle.std.proofs.lemmas.List.{take-append-drop, take_more}
 use Rattle.std.proofs.lemmas.List.Folds.{list_any-append}
+use Rattle.std.proofs.lemmas.Option.{none-some, same_Some}
 use Rattle.cell_maps.specs.Sets.{has}
 use Rattle.grid_address.proofs.Places.{get_inserted, same_place_is, same_place_itself}
 use Rattle.grid_address.specs.Place.{is_within, place_cmp, same_place, Extent, Place}
@@ -21,12 +21,6 @@ use Rattle.depend_graph.specs.inner.Slots.{filled, offering, placed, turned, tur
 use Rattle.depend_graph.specs.declared.slots.Part.TheVariants.{Formula, Offer}
 use Rattle.depend_graph.specs.declared.node.Node.{Node}
 use Rattle.depend_graph.specs.declared.slots.Slot.{Slot}
-
-some_is : {X : Type 0} (x y : X) → Some x ≡ Some y → x ≡ y
-some_is x y h = cc
-
-none_some : {X : Type 0} (x : X) → None ≡ Some x → ⊥
-none_some x h = absurd cc
 
 -- lists keep what they have
 pub kept_itself : (m : Lists) → AreKept m m
@@ -80,7 +74,7 @@ all_kept m a b k all c s e =
 
 -- where there are no slots, all stand in the lists
 pub none_listed : (m : Slots) (lists : Lists) → m ≡ empty → AreInLists m lists
-none_listed m lists e c s h = absurd (none_some s (sym (ap (λ (n : Slots). get n c) e ∙ get-empty place_cmp c) ∙ h))
+none_listed m lists e c s h = absurd (none-some s (sym (ap (λ (n : Slots). get n c) e ∙ get-empty place_cmp c) ∙ h))
 
 filter_append : (xs ys : List Extent) → filter is_one (xs ++ ys) ≡ filter is_one xs ++ filter is_one ys
 filter_append [] ys = refl
@@ -90,9 +84,6 @@ filter_append (x ∷ xs) ys = elim (is_one x) as (λ b. cond b (x ∷ filter is_
       | false ↦ filter_append xs ys
     ]
 
-le_of : {a b : ℕ} → nat_le a b ≡ true → a ≤ b
-le_of {a} {b} h = grind (arith, nat_tests, h)
-
 -- a span that is one cell holds that cell alone
 one_place : (s : Extent) (d : Place) → is_one s ≡ true → is_within s d ≡ true → d ≡ s.first
 one_place s d o w =
@@ -101,11 +92,11 @@ one_place s d o w =
     (nat_le s.first.col d.col && nat_le d.col s.last.col) w in
     let q = and_parts (nat_le s.first.row d.row) (nat_le d.row s.last.row) p.0 in
     let r = and_parts (nat_le s.first.col d.col) (nat_le d.col s.last.col) p.1 in
-    let a : s.first.row ≤ d.row = le_of q.0 in
-    let b : d.row ≤ s.last.row = le_of q.1 in
+    let a : s.first.row ≤ d.row = leb-true _ _ q.0 in
+    let b : d.row ≤ s.last.row = leb-true _ _ q.1 in
     let x : s.first.row ≡ s.last.row = ap (λ (t : Place). t.row) e in
-    let f : s.first.col ≤ d.col = le_of r.0 in
-    let g : d.col ≤ s.last.col = le_of r.1 in
+    let f : s.first.col ≤ d.col = leb-true _ _ r.0 in
+    let g : d.col ≤ s.last.col = leb-true _ _ r.1 in
     let y : s.first.col ≡ s.last.col = ap (λ (t : Place). t.col) e in
     let row : d.row ≡ s.first.row = omega (arith, a, b, x) in
     let col : d.col ≡ s.first.col = omega (arith, f, g, y) in
@@ -147,38 +138,38 @@ module _ (m : Slots) (lists : Lists) (all : AreInLists m lists) (c : Place) wher
   ]
 
   unoffered : (o : Option Slot) → get m c ≡ o → (s : Slot) → without Offer o ≡ Some s → IsInLists lists c s
-  unoffered None e s h = absurd (none_some s h)
+  unoffered None e s h = absurd (none-some s h)
   unoffered (Some x) e s h = with x.node (all c x e).node h
     where
       with : (o : Option Node) → IsInListsOf lists c o → filled o (record x { node = o; offer = None }) ≡ Some s
           → IsInLists lists c s
-      with None n h = absurd (none_some s h)
-      with (Some k) n h = subst (λ (t : Slot). IsInLists lists c t) (some_is _ _ h) (record { node = n; offer = tt })
+      with None n h = absurd (none-some s h)
+      with (Some k) n h = subst (λ (t : Slot). IsInLists lists c t) (same_Some _ _ h) (record { node = n; offer = tt })
 
   -- without its offer
   pub unoffered_listed : AreInLists (placed m c (without Offer (get m c))) lists
   unoffered_listed = placed_listed (without Offer (get m c)) (unoffered (get m c) refl)
 
   unformed : (o : Option Slot) → get m c ≡ o → (s : Slot) → without Formula o ≡ Some s → IsInLists lists c s
-  unformed None e s h = absurd (none_some s h)
+  unformed None e s h = absurd (none-some s h)
   unformed (Some x) e s h = with x.offer (all c x e).offer h
     where
       with : (o : Option Node) → IsInListsOf lists c o → filled o (record x { node = None; offer = o }) ≡ Some s
           → IsInLists lists c s
-      with None n h = absurd (none_some s h)
-      with (Some k) n h = subst (λ (t : Slot). IsInLists lists c t) (some_is _ _ h) (record { node = tt; offer = n })
+      with None n h = absurd (none-some s h)
+      with (Some k) n h = subst (λ (t : Slot). IsInLists lists c t) (same_Some _ _ h) (record { node = tt; offer = n })
 
   -- without its formula
   pub unformed_listed : AreInLists (placed m c (without Formula (get m c))) lists
   unformed_listed = placed_listed (without Formula (get m c)) (unformed (get m c) refl)
 
   turned_here : (o : Option Slot) → get m c ≡ o → (s : Slot) → turned o ≡ Some s → IsInLists lists c s
-  turned_here None e s h = absurd (none_some s h)
+  turned_here None e s h = absurd (none-some s h)
   turned_here (Some x) e s h = with x.offer (all c x e).offer h
     where
       with : (o : Option Node) → IsInListsOf lists c o → Some (turned_to o x) ≡ Some s → IsInLists lists c s
-      with None n h = subst (λ (t : Slot). IsInLists lists c t) (some_is _ _ h) (all c x e)
-      with (Some k) n h = subst (λ (t : Slot). IsInLists lists c t) (some_is _ _ h) (record { node = n; offer = tt })
+      with None n h = subst (λ (t : Slot). IsInLists lists c t) (same_Some _ _ h) (all c x e)
+      with (Some k) n h = subst (λ (t : Slot). IsInLists lists c t) (same_Some _ _ h) (record { node = n; offer = tt })
 
   -- with its offer for its formula
   pub turned_listed : AreInLists (placed m c (turned (get m c))) lists
@@ -187,9 +178,9 @@ module _ (m : Slots) (lists : Lists) (all : AreInLists m lists) (c : Place) wher
   offering_here : (o : Option Slot) (n : Node) → get m c ≡ o → IsListed lists c n.reads → (s : Slot)
       → Some (offering o n) ≡ Some s → IsInLists lists c s
   offering_here None n e l s h =
-      subst (λ (t : Slot). IsInLists lists c t) (some_is _ _ h) (record { node = tt; offer = l })
+      subst (λ (t : Slot). IsInLists lists c t) (same_Some _ _ h) (record { node = tt; offer = l })
   offering_here (Some x) n e l s h =
-      subst (λ (t : Slot). IsInLists lists c t) (some_is _ _ h) (record { node = (all c x e).node; offer = l })
+      subst (λ (t : Slot). IsInLists lists c t) (same_Some _ _ h) (record { node = (all c x e).node; offer = l })
 
   -- with an offer
   pub offering_listed : (n : Node) → IsListed lists c n.reads

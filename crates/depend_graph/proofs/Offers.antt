@@ -1,7 +1,7 @@
 -- An offer is put where the earlier one was taken back.
 use Rattle.std.specs.Prelude.{◌≡◌, Bool, cond, not, refl, Option, None, Some}
 use Rattle.std.specs.FinMap.{get}
-use Rattle.std.proofs.Common.{sym, ◌∙◌, ap, subst, OnErr, Result, Ok, Err}
+use Rattle.std.proofs.Common.{sym, ◌∙◌, ap, subst}
 use Rattle.grid_address.proofs.Places.{same_place_itself}
 use Rattle.grid_address.specs.Place.{Place}
 use Rattle.range_index.specs.Owners.{Owners}
@@ -45,8 +45,3 @@ module _ (m m1 : Slots) (even odd : Owners) (c : Place) (is : m1 ≡ placed m c 
     pub taken_up : (n : Node) → spans_at even' odd' b c ≡ wide n.reads
         → AreRegistered (placed m1 c (Some (offering (get m1 c) n))) even' odd'
     taken_up n reads = offering_registered m1 even odd even' odd' b c kept unoffered n other reads
-
--- what holds anyway holds where the answer is an error
-pub on_err : {T E : Type 0} (r : Result T E) (P : Type 0) → P → OnErr r P
-on_err (Ok t) P p = tt
-on_err (Err e) P p = p

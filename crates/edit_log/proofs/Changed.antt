@@ -3,7 +3,7 @@ use Rattle.std.specs.Prelude.{◌≡◌, ◌<◌, ◌++◌, ◌||◌, ℕ, zero,
 use Rattle.std.specs.Prelude.{if◌then◌else◌, List, [], ◌∷◌, Option, None, Some, OnErr, OnOk, Result, Ok, Err}
 use Rattle.std.specs.FinMap.{get, insert, remove}
 use Rattle.std.proofs.Common.{ap, arith, sym, subst, ◌∙◌, inl, inr}
-use Rattle.std.proofs.lemmas.Bool.{cases_Bool, false≢true, or_cases, or_left, or_right}
+use Rattle.std.proofs.lemmas.Bool.{cases_Bool, false≢true, or_cases, or_left, or_parts, or_right}
 use Rattle.cell_maps.specs.Sets.{has, insert_key}
 use Rattle.grid_address.proofs.Places.{get_inserted, get_removed, same_place_is, same_place_itself, same_places}
 use Rattle.grid_address.specs.Place.{same_place, Place}
@@ -59,20 +59,15 @@ get_beside m (e ∷ es) q h = elim (cases_Bool (same_place q e.0)) [
       ∙ get_changed m e.0 e.1 q ∙ ap (λ b. cond b e.1 (get m q)) f
 ]
 
--- where not one of two holds, neither does
-or_out : (a b : Bool) → (a || b) ≡ false → (a ≡ false) × (b ≡ false)
-or_out true b h = absurd (false≢true (sym h))
-or_out false b h = (refl, h)
-
 -- a cell that doesn't change isn't one of those that do
 pub is_beside : (es : List (Place × Option CellState)) (i : ℕ) (e : Place × Option CellState) (q : Place) →
     e ≡ get_or es i e → i < length es → is_noted es q ≡ false → same_place q e.0 ≡ false
 is_beside [] i e q is l f = absurd (omega (arith, l))
 is_beside (x ∷ es) zero e q is l f =
     subst (λ (y : Place × Option CellState). same_place q y.0 ≡ false) (sym is)
-    (or_out (same_place q x.0) (is_noted es q) f).0
+    (or_parts (same_place q x.0) (is_noted es q) f).0
 is_beside (x ∷ es) (suc i) e q is l f =
-    is_beside es i e q is (omega (arith, l)) (or_out (same_place q x.0) (is_noted es q) f).1
+    is_beside es i e q is (omega (arith, l)) (or_parts (same_place q x.0) (is_noted es q) f).1
 
 -- one more change leaves the cells that don't change
 pub beside_more : (m n : Cells) (es : List (Place × Option CellState)) (i : ℕ) (e : Place × Option CellState) →
@@ -129,8 +124,3 @@ noted_last (x ∷ es) e = or_right _ _ (noted_last es e)
 pub either : {A E : Type 0} (r : Result A E) {P Q R : Type 0} → OnOk r P → OnErr r Q → (P → R) → (Q → R) → R
 either (Ok x) p q f g = f p
 either (Err e) p q f g = g q
-
--- what is told of an answer that is Ok
-pub on_ok : {A E : Type 0} (r : Result A E) {P Q : Type 0} → (P → Q) → OnOk r P → OnOk r Q
-on_ok (Ok x) f p = f p
-on_ok (Err e) f p = p

@@ -5,7 +5,7 @@ use Rattle.std.proofs.Common.{get_or, Ok, Err, refl, sym, ap, ◌∙◌, subst, 
 use Rattle.std.proofs.Common.{length-append, pos, negsuc}
 use Rattle.std.specs.Prelude.{codes}
 use Rattle.std.proofs.lemmas.Bool.Decides.{nat_tests}
-use Rattle.std.proofs.lemmas.Bool.{and_from, and_parts}
+use Rattle.std.proofs.lemmas.Bool.{and_parts, false≢true}
 use Rattle.fixed_value.specs.Written.{short}
 use Rattle.grid_address.specs.Place.{InSheet, Place}
 use Rattle.range_names.specs.Names.{AreKeys, NameMap}
@@ -15,6 +15,7 @@ use Rattle.formula_tree.specs.Shape.{count, every, every_one, is_bracketed, is_c
 use Rattle.formula_tree.specs.Table.{counts_of, takes}
 use Rattle.formula_tree.specs.Tree.{Tree, num, str, cell, span, group, neg, not as negation, binary, call, Trees}
 use Rattle.formula_tree.specs.Tree.{no_trees, trees}
+use Rattle.formula_tree.proofs.Nodes.{fine_counted, weaker}
 use Rattle.formula_text.specs.declared.fault.ParseFault.TheVariants.{ArgCount}
 use Rattle.formula_text.specs.declared.parse.Bracket.TheVariants.{Plain, Call}
 use Rattle.formula_text.specs.declared.lexeme.LexemeKind.TheVariants.{Cell, Constant, Function, Num, Span, Str}
@@ -35,34 +36,6 @@ use Rattle.formula_text.proofs.PlacesRead.{cell_part, span_part}
 use Rattle.formula_text.proofs.SignsRead.{close_cut, comma_cut, minus_read, not_read, op_read, op_stops, open_cut}
 use Rattle.formula_text.proofs.SignsRead.{plus_read}
 
--- a test that each node passes, and a weaker one
-mutual
-  every_weaker : (p q : Tree → Bool) → ((t : Tree) → p t ≡ true → q t ≡ true) → (t : Tree) → every p t ≡ true
-      → every q t ≡ true
-  every_weaker p q w (num v) h = w (num v) h
-  every_weaker p q w (str v) h = w (str v) h
-  every_weaker p q w (cell v) h = w (cell v) h
-  every_weaker p q w (span a b) h = w (span a b) h
-  every_weaker p q w (group a) h = and_from _ _ (w (group a) (and_parts (p (group a)) (every p a) h).0)
-      (every_weaker p q w a (and_parts (p (group a)) (every p a) h).1)
-  every_weaker p q w (neg a) h = and_from _ _ (w (neg a) (and_parts (p (neg a)) (every p a) h).0)
-      (every_weaker p q w a (and_parts (p (neg a)) (every p a) h).1)
-  every_weaker p q w (negation a) h = and_from _ _ (w (negation a) (and_parts (p (negation a)) (every p a) h).0)
-      (every_weaker p q w a (and_parts (p (negation a)) (every p a) h).1)
-  every_weaker p q w (binary op a b) h =
-      let more = (and_parts (p (binary op a b)) (every p a && every p b) h).1 in
-      and_from _ _ (w (binary op a b) (and_parts (p (binary op a b)) (every p a && every p b) h).0)
-      (and_from _ _ (every_weaker p q w a (and_parts (every p a) (every p b) more).0)
-      (every_weaker p q w b (and_parts (every p a) (every p b) more).1))
-  every_weaker p q w (call f ts) h = and_from _ _ (w (call f ts) (and_parts (p (call f ts)) (every_one p ts) h).0)
-      (all_weaker p q w ts (and_parts (p (call f ts)) (every_one p ts) h).1)
-
-  all_weaker : (p q : Tree → Bool) → ((t : Tree) → p t ≡ true → q t ≡ true) → (ts : Trees) → every_one p ts ≡ true
-      → every_one q ts ≡ true
-  all_weaker p q w no_trees h = refl
-  all_weaker p q w (trees a ts) h = and_from _ _ (every_weaker p q w a (and_parts (every p a) (every_one p ts) h).0)
-      (all_weaker p q w ts (and_parts (every p a) (every_one p ts) h).1)
-
 module _ (names : NameMap) (at_cell : Place) (keyed : AreKeys names) (inside : InSheet at_cell) where
   abbrev parts : ℕ → List ℕ → List Lexeme
   parts at bytes = lexed names at_cell 0 at bytes
@@ -72,9 +45,6 @@ module _ (names : NameMap) (at_cell : Place) (keyed : AreKeys names) (inside : I
 
   plain : (t : Tree) → is_fine t ≡ true → is_plain t ≡ true
   plain t h = (and_parts (is_counted t) (is_plain t) (and_parts (is_bracketed t) (is_counted t && is_plain t) h).1).1
-
-  counted : (t : Tree) → is_fine t ≡ true → is_counted t ≡ true
-  counted t h = (and_parts (is_counted t) (is_plain t) (and_parts (is_bracketed t) (is_counted t && is_plain t) h).1).0
 
   number_leaf : (n : ℕ) → is_ranged (num (pos n)) ≡ true → IsPart names at_cell (short (pos n) 6) (Num (pos n))
   number_leaf n h = number_part names at_cell n (number_small n h)
@@ -87,10 +57,7 @@ module _ (names : NameMap) (at_cell : Place) (keyed : AreKeys names) (inside : I
   pub text_starts : (t : Tree) (rest : List ℕ) → every is_fine t ≡ true → every is_ranged t ≡ true
       → Starts (get_or (text_of names at_cell t ++ rest) 0 0)
   text_starts (num (pos n)) rest f r = (number_leaf n r).first rest
-  text_starts (num (negsuc n)) rest f r = absurd (false_true (plain (num (negsuc n)) f))
-    where
-      false_true : false ≡ true → ⊥
-      false_true h = absurd cc
+  text_starts (num (negsuc n)) rest f r = absurd (false≢true (plain (num (negsuc n)) f))
   text_starts (str t) rest f r = record { space = refl; equal = refl; greater = refl }
   text_starts (cell x) rest f r = (cell_part names at_cell x keyed inside r).first rest
   text_starts (span a b) rest f r = (span_leaf a b r).first rest
@@ -144,10 +111,7 @@ module _ (names : NameMap) (at_cell : Place) (keyed : AreKeys names) (inside : I
         ≡ behind (tokens t) (at + length (text_of names at_cell t)) rest bs
     read_again (num (pos n)) rest at bs f r stops =
         leaf (short (pos n) 6) rest (Num (pos n)) at bs (number_leaf n r) stops
-    read_again (num (negsuc n)) rest at bs f r stops = absurd (true_false (plain (num (negsuc n)) f))
-      where
-        true_false : false ≡ true → ⊥
-        true_false h = absurd cc
+    read_again (num (negsuc n)) rest at bs f r stops = absurd (false≢true (plain (num (negsuc n)) f))
     read_again (str t) rest at bs f r stops =
         leaf (codes "\"" ++ (t ++ codes "\"")) rest (Str t) at bs (text_part names at_cell t r (plain (str t) f)) stops
     read_again (cell x) rest at bs f r stops =
@@ -206,7 +170,7 @@ module _ (names : NameMap) (at_cell : Place) (keyed : AreKeys names) (inside : I
         (operator_first (parts (mid + length (op_text op) + length two) rest) bs)
         ∙ ap (λ k. behind (tokens a ++ (infix_op op ∷ tokens b)) k rest bs) end
     read_again (call f no_trees) rest at bs g r stops =
-        let none = counted (call f no_trees) (and_parts (is_fine (call f no_trees)) true g).0 in
+        let none = fine_counted (call f no_trees) (and_parts (is_fine (call f no_trees)) true g).0 in
         leaf (codes "@" ++ name_of f) rest (kind_of f) at bs (function_part names at_cell f) stops
         ∙ ap (λ k. operand_first (record { at = at; kind = k } ∷ parts (at + length (codes "@" ++ name_of f)) rest) bs)
         (no_args f none)
@@ -215,7 +179,7 @@ module _ (names : NameMap) (at_cell : Place) (keyed : AreKeys names) (inside : I
         let one : List ℕ = text_of names at_cell a in
         let more : List ℕ = more_text names at_cell ts in
         let gs = (and_parts (is_fine (call f (trees a ts))) (every is_fine a && every_one is_fine ts) g).1 in
-        let taken : takes (counts_of f) (1 + count ts) ≡ true = counted (call f (trees a ts))
+        let taken : takes (counts_of f) (1 + count ts) ≡ true = fine_counted (call f (trees a ts))
         (and_parts (is_fine (call f (trees a ts))) (every is_fine a && every_one is_fine ts) g).0 in
         let begin : ℕ = at + length name + 1 in
         let last : ℕ = begin + length one + length more in
@@ -276,7 +240,7 @@ module _ (names : NameMap) (at_cell : Place) (keyed : AreKeys names) (inside : I
         short,
         record {
           same = behind_sign bytes (again 0) (again 1);
-          well = every_weaker is_fine is_bracketed
+          well = weaker is_fine is_bracketed
               (λ x h. (and_parts (is_bracketed x) (is_counted x && is_plain x) h).0) t f;
         },
       )

@@ -1,5 +1,5 @@
 -- Functions that are written are read.
-use Rattle.std.proofs.Common.{◌≡◌, ℕ, ◌+◌, ◌<◌, Bool, true, false, ◌&&◌, cond, ◌==◌, nat_lt, List, [], ◌∷◌, ◌++◌, take}
+use Rattle.std.proofs.Common.{◌≡◌, ℕ, ◌+◌, ◌<◌, Bool, true, false, ◌&&◌, ◌==◌, nat_lt, List, [], ◌∷◌, ◌++◌, take}
 use Rattle.std.proofs.Common.{length, get_or, Some, refl, sym, ap, ◌∙◌, subst, arith, inl, inr, ◌⊎◌}
 use Rattle.std.specs.Prelude.{codes, if◌then◌else◌}
 use Rattle.std.specs.List.{list_all}
@@ -33,11 +33,8 @@ pointed_or_named f = inr (record { some = refl; plain = refl; found = refl })
 
 -- no function takes none or one argument
 not_both : (f : AtFunction) → (takes (counts_of f) 0 && takes (counts_of f) 1) ≡ false
-not_both f = by f
-  where
-    by : (f : AtFunction) → (takes (counts_of f) 0 && takes (counts_of f) 1) ≡ false
-    by function.Choose = refl
-    by f = refl
+not_both function.Choose = refl
+not_both f = refl
 
 -- what may stand behind a name
 name_stops : (b : ℕ) → is_word_byte b ≡ false → is_name_byte b ≡ false

@@ -1,6 +1,6 @@
 -- Numbers and texts that are written are read.
 use Rattle.std.specs.Char.{is_ascii_digit}
-use Rattle.std.proofs.Common.{◌≡◌, ℕ, ◌+◌, ◌≤◌, ◌<◌, Bool, true, false, not, ◌&&◌, ◌||◌, cond, ◌==◌, nat_le, nat_lt}
+use Rattle.std.proofs.Common.{◌≡◌, ℕ, ◌+◌, ◌≤◌, ◌<◌, Bool, true, false, not, ◌&&◌, cond, ◌==◌, nat_le, nat_lt}
 use Rattle.std.proofs.Common.{List, [], ◌∷◌, ◌++◌, take, length, get_or, Some, None, Ok, refl, sym, ap, ◌∙◌, arith}
 use Rattle.std.proofs.Common.{append_assoc, length-append, pos}
 use Rattle.std.specs.Prelude.{codes, position}
@@ -8,7 +8,7 @@ use Rattle.std.specs.List.{list_all, list_any, prefix_len}
 use Rattle.std.specs.Int.RustNames.{int_lt}
 use Rattle.std.proofs.lemmas.Bool.Decides.{nat_tests}
 use Rattle.std.proofs.lemmas.Int.{ints}
-use Rattle.std.proofs.lemmas.Bool.{and_parts}
+use Rattle.std.proofs.lemmas.Bool.{and_parts, or_parts}
 use Rattle.lics_text.specs.Texts.{text_of}
 use Rattle.fixed_value.specs.declared.decimal.Decimal.TheVariants.{Num as decimal}
 use Rattle.fixed_value.specs.Decimals.{behind_digits, decimal_of}
@@ -99,11 +99,7 @@ is_quote b = b == 34
 
 none_quote : (b : ℕ) (bs : List ℕ) → list_any is_quote (b ∷ bs) ≡ false
     → ((b == 34) ≡ false) × (list_any is_quote bs ≡ false)
-none_quote b bs h = (parts (b == 34) (list_any is_quote bs) h)
-  where
-    parts : (x y : Bool) → (x || y) ≡ false → (x ≡ false) × (y ≡ false)
-    parts true y h = absurd cc
-    parts false y h = (refl, h)
+none_quote b bs h = or_parts (b == 34) (list_any is_quote bs) h
 
 -- a text without quotes is as long as what stands before the quote behind it
 pub free_len : (t rest : List ℕ) → list_any is_quote t ≡ false

@@ -3,6 +3,8 @@ use Rattle.std.proofs.Common.{◌≡◌, ℕ, zero, suc, ◌+◌, ◌-◌, ◌�
 use Rattle.std.proofs.Common.{◌++◌, length, take, drop, refl, sym, ap, ◌∙◌, arith, append_assoc, length-append}
 use Rattle.std.proofs.lemmas.Bool.Decides.{nat_tests}
 use Rattle.std.proofs.lemmas.List.{length-take, take-append-drop}
+use Rattle.std.proofs.lemmas.Bool.{and_right}
+use Rattle.std.proofs.Math.Bool.{and-true}
 use Rattle.formula_text.specs.declared.output.Output.{Output}
 use Rattle.formula_text.specs.Printed.{written}
 
@@ -104,13 +106,9 @@ by_length : (sign text : List ℕ) (c : Bool) → nat_le (length text) 240 ≡ c
 by_length sign text true h =
     let e : take 240 text ≡ text = take_all 240 text (let q : length text ≤ 240 = grind (arith, nat_tests) in q) in (
       ap (λ x. take 240 (sign ++ x)) e,
-      and_true (nat_le (length (sign ++ take 240 text)) 240)
+      and-true (nat_le (length (sign ++ take 240 text)) 240)
           ∙ ap (λ x. nat_le (length (sign ++ x)) 240) e,
     )
-  where
-    and_true : (b : Bool) → (b && true) ≡ b
-    and_true true = refl
-    and_true false = refl
 by_length sign text false h =
     let long : 240 < length text = grind (arith, nat_tests) in
     let split : sign ++ text ≡ (sign ++ take 240 text) ++ drop 240 text = ap (λ x. sign ++ x)
@@ -118,13 +116,9 @@ by_length sign text false h =
     let size : 240 ≤ length (sign ++ take 240 text) =
     omega (arith, length-append sign (take 240 text), length-take 240 text, long) in (
       sym (ap (take 240) split ∙ take_short 240 (sign ++ take 240 text) (drop 240 text) size),
-      and_false (nat_le (length (sign ++ take 240 text)) 240)
+      and_right (nat_le (length (sign ++ take 240 text)) 240) false refl
           ∙ past (length (sign ++ text)) (omega (arith, length-append sign text, long)),
     )
-  where
-    and_false : (b : Bool) → (b && false) ≡ false
-    and_false true = refl
-    and_false false = refl
 
 -- a text that is cut off, behind a sign
 pub cut_behind : (sign text : List ℕ) → take 240 (sign ++ take 240 text) ≡ take 240 (sign ++ text)

@@ -13,6 +13,7 @@ use Rattle.grid_address.specs.Axes.{is_fixed, Reference}
 use Rattle.grid_address.specs.Leads.{reference_to, resolve}
 use Rattle.grid_address.specs.Place.{same_place, spanned, Extent, InSheet, Place}
 use Rattle.grid_address.specs.Progress.{address_in, count_dots}
+use Rattle.grid_address.proofs.Places.{same_place_itself}
 use Rattle.range_names.specs.Names.{is_word_byte as names_byte, is_plain, is_word, name_of_span, AreKeys, NameMap}
 use Rattle.range_names.proofs.Named.{finds, Finds}
 use Rattle.formula_tree.specs.Ranges.{is_reference}
@@ -243,9 +244,6 @@ corners p q h g =
     let four : max p.col q.col ≡ q.col = grind (arith, nat_tests, g) in
     λ i. record { first = record { row = one i; col = two i }; last = record { row = three i; col = four i } }
 
-same_itself : (p : Place) → same_place p p ≡ true
-same_itself p = grind (arith, nat_tests)
-
 cell_kind : (cell : Place) (r : Reference) (at : ℕ) → InSheet cell → is_reference r ≡ true → alike r r ≡ true
     → span_kind cell at (is_fixed r.col) (Some (spanned (resolve r cell) (resolve r cell))) ≡ Cell r
 cell_kind cell r at inside h a =
@@ -254,7 +252,7 @@ cell_kind cell r at inside h a =
     same_is (is_fixed r.row) (is_fixed r.col) (and_parts (same (is_fixed r.row) (is_fixed r.col)) _ a).0 in
     ap (λ s. span_kind cell at (is_fixed r.col) (Some s)) (corners p p (omega arith) (omega arith))
     ∙ ap (λ c. cond c (Cell (reference_to p cell (is_fixed r.col) (is_fixed r.col))) (Span (reference_to p cell
-    (is_fixed r.col) (is_fixed r.col)) (reference_to p cell (is_fixed r.col) (is_fixed r.col)))) (same_itself p)
+    (is_fixed r.col) (is_fixed r.col)) (reference_to p cell (is_fixed r.col) (is_fixed r.col)))) (same_place_itself p)
     ∙ ap (λ b. Cell (reference_to p cell (is_fixed r.col) b)) (sym row)
     ∙ ap Cell (reference_back r cell inside h)
 

@@ -1,5 +1,5 @@
 -- A text between quotes has none.
-use Rattle.std.proofs.Common.{◌≡◌, ℕ, suc, ◌+◌, ◌==◌, ◌||◌, Bool, true, false, not, cond, nat_lt, List, [], ◌∷◌, length}
+use Rattle.std.proofs.Common.{◌≡◌, ℕ, suc, ◌+◌, ◌==◌, Bool, true, false, not, cond, nat_lt, List, [], ◌∷◌, length}
 use Rattle.std.proofs.Common.{take, Option, Some, None, refl, ap, subst, arith}
 use Rattle.std.proofs.lemmas.Bool.Decides.{nat_tests}
 use Rattle.std.specs.Prelude.{position}
@@ -7,6 +7,7 @@ use Rattle.std.specs.List.{list_any, position_or_len}
 use Rattle.lics_text.specs.Texts.{text_of, unless_bad}
 use Rattle.lics_text.specs.declared.faults.TextFault.TheVariants.{TooLong}
 use Rattle.std.specs.Prelude.{Err}
+use Rattle.std.proofs.lemmas.Bool.{or_from}
 use Rattle.formula_tree.specs.Shape.{has_no_quote}
 use Rattle.formula_text.specs.inner.Fine.{is_fine_kind}
 use Rattle.formula_text.specs.Operands.{text_kind}
@@ -24,10 +25,7 @@ one_more : (b : ℕ) (bs : List ℕ) (n : ℕ) (c : Bool) → is_quote b ≡ c �
     → list_any is_quote (take (cond (not c) (1 + n) 0) (b ∷ bs)) ≡ false
 one_more b bs n true e h = refl
 one_more b bs n false e h = subst (λ m. list_any is_quote (take m (b ∷ bs)) ≡ false)
-    (let q : suc n ≡ 1 + n = omega arith in q) (neither (is_quote b) (list_any is_quote (take n bs)) e h)
-  where
-    neither : (x y : Bool) → x ≡ false → y ≡ false → (x || y) ≡ false
-    neither x y p q = grind arith
+    (let q : suc n ≡ 1 + n = omega arith in q) (or_from (is_quote b) (list_any is_quote (take n bs)) e h)
 
 free : (bytes : List ℕ) → list_any is_quote (take (position_or_len is_quote bytes) bytes) ≡ false
 free [] = refl

@@ -4,6 +4,7 @@ use Rattle.std.proofs.Common.{refl, ap, ◌∙◌, arith, length-append}
 use Rattle.std.specs.Prelude.{codes, min}
 use Rattle.std.specs.Str.{str_eq_ignore_ascii_case}
 use Rattle.std.proofs.lemmas.Bool.Decides.{nat_tests}
+use Rattle.std.proofs.Math.Nat.{min-eq_left}
 use Rattle.grid_address.specs.Place.{Place}
 use Rattle.range_names.specs.Names.{NameMap}
 use Rattle.formula_tree.specs.declared.ast.Op.{Op}
@@ -32,14 +33,11 @@ hash_part : (names : NameMap) (cell : Place) (rest : List ℕ) (at : ℕ)
 unfolding part_found found_by
 hash_part names cell rest at = refl
 
-min_least : (a b : ℕ) → a ≤ b → min a b ≡ a
-min_least a b h = grind (arith, nat_tests, h)
-
 begins : (word rest : List ℕ) → begins_with (word ++ rest) word ≡ str_eq_ignore_ascii_case word word
 begins word rest =
     let inside : length word ≤ length (word ++ rest) = omega (arith, length-append word rest) in
     ap (λ k. str_eq_ignore_ascii_case (take k (word ++ rest)) word)
-    (min_least (length word) (length (word ++ rest)) inside)
+    (min-eq_left inside)
     ∙ ap (λ (l : List ℕ). str_eq_ignore_ascii_case l word) (take_front word rest)
 
 -- the second letter tells

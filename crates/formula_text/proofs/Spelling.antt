@@ -3,7 +3,7 @@ use Rattle.std.proofs.Common.{◌≡◌, ℕ, ◌+◌, ◌≤◌, ◌<◌, min, 
 use Rattle.std.proofs.Common.{◌++◌, length, Result, Ok, Err, IfOk, refl, sym, ap, ◌∙◌, subst, arith, append_assoc}
 use Rattle.std.proofs.Common.{append-nil}
 use Rattle.std.proofs.lemmas.Bool.Decides.{nat_tests}
-use Rattle.std.proofs.lemmas.Bool.{and_from, and_parts}
+use Rattle.std.proofs.lemmas.Bool.{and_from, and_parts, leb-false, leb-true, lt-ltb, ltb-true}
 use Rattle.formula_tree.specs.declared.function.Function.{Function as AtFunction}
 use Rattle.formula_tree.specs.declared.ast.Op.{Op}
 use Rattle.formula_tree.specs.declared.ast.Op.TheVariants.{Pow, Mul, Div, Add, Sub, Eq, Ne, Lt, Gt, Le, Ge, And, Or}
@@ -63,18 +63,6 @@ beside_tokens op (binary o a b) x = either (nat_le (level op) (lowest (binary o 
     either false h = ap (λ ts. tokens a ++ (infix_op o ∷ ts)) h
         ∙ sym (append_assoc (tokens a) (infix_op o ∷ tokens b) (infix_op op ∷ tokens x))
 
-at_most : (a b : ℕ) → nat_le a b ≡ true → a ≤ b
-at_most a b h = grind (arith, nat_tests)
-
-is_more : (a b : ℕ) → nat_le a b ≡ false → b < a
-is_more a b h = grind (arith, nat_tests)
-
-is_below : (a b : ℕ) → nat_lt a b ≡ true → a < b
-is_below a b h = grind (arith, nat_tests)
-
-below : (a b : ℕ) → a < b → nat_lt a b ≡ true
-below a b h = grind (arith, nat_tests)
-
 -- the operator at the top stays, or is the new one
 beside_top : (op : Op) (t x : Tree) (n : ℕ) → n < top t → min (lowest t) n < level op → n < top (beside op t x)
 beside_top op (num v) x n h k = omega (arith, h, k)
@@ -87,19 +75,19 @@ beside_top op (neg a) x n h k = either (nat_le (level op) (lowest (neg a))) refl
   where
     either : (b : Bool) → nat_le (level op) (lowest (neg a)) ≡ b
         → n < top (cond b (binary op (neg a) x) (neg (beside op a x)))
-    either true e = omega (arith, k, at_most (level op) (lowest (neg a)) e)
+    either true e = omega (arith, k, leb-true (level op) (lowest (neg a)) e)
     either false e = h
 beside_top op (not a) x n h k = either (nat_le (level op) (lowest (not a))) refl
   where
     either : (b : Bool) → nat_le (level op) (lowest (not a)) ≡ b
         → n < top (cond b (binary op (not a) x) (not (beside op a x)))
-    either true e = omega (arith, k, at_most (level op) (lowest (not a)) e)
+    either true e = omega (arith, k, leb-true (level op) (lowest (not a)) e)
     either false e = h
 beside_top op (binary o a b) x n h k = either (nat_le (level op) (lowest (binary o a b))) refl
   where
     either : (c : Bool) → nat_le (level op) (lowest (binary o a b)) ≡ c
         → n < top (cond c (binary op (binary o a b) x) (binary o a (beside op b x)))
-    either true e = omega (arith, k, at_most (level op) (lowest (binary o a b)) e)
+    either true e = omega (arith, k, leb-true (level op) (lowest (binary o a b)) e)
     either false e = h
 
 well_binary : (op : Op) (a b : Tree) → every is_bracketed a ≡ true → every is_bracketed b ≡ true
@@ -110,7 +98,7 @@ level_within : (op : Op) → nat_le (level op) 8 ≡ true
 level_within op = let h = level_below op in grind (arith, nat_tests, h)
 
 tight : (op : Op) (x : Tree) → top x ≡ 8 → nat_lt (level op) (top x) ≡ true
-tight op x e = below _ _ (omega (arith, e, level_below op))
+tight op x e = lt-ltb _ _ (omega (arith, e, level_below op))
 
 -- brackets stay right
 beside_well : (op : Op) (t x : Tree) → every is_bracketed t ≡ true → every is_bracketed x ≡ true → top x ≡ 8
@@ -127,16 +115,16 @@ beside_well op (neg a) x w u e = either (nat_le (level op) (lowest (neg a))) ref
     either : (b : Bool) → nat_le (level op) (lowest (neg a)) ≡ b → every is_bracketed (beside op a x) ≡ true
         → every is_bracketed (cond b (binary op (neg a) x) (neg (beside op a x))) ≡ true
     either true k h = well_binary op (neg a) x w u k (tight op x e)
-    either false k h = and_from _ _ (below _ _ (beside_top op a x 6
-        (is_below _ _ (and_parts (nat_lt 6 (top a)) (every is_bracketed a) w).0) (is_more _ _ k))) h
+    either false k h = and_from _ _ (lt-ltb _ _ (beside_top op a x 6
+        (ltb-true _ _ (and_parts (nat_lt 6 (top a)) (every is_bracketed a) w).0) (leb-false _ _ k))) h
 beside_well op (not a) x w u e = either (nat_le (level op) (lowest (not a))) refl
     (beside_well op a x (and_parts (nat_lt 2 (top a)) (every is_bracketed a) w).1 u e)
   where
     either : (b : Bool) → nat_le (level op) (lowest (not a)) ≡ b → every is_bracketed (beside op a x) ≡ true
         → every is_bracketed (cond b (binary op (not a) x) (not (beside op a x))) ≡ true
     either true k h = well_binary op (not a) x w u k (tight op x e)
-    either false k h = and_from _ _ (below _ _ (beside_top op a x 2
-        (is_below _ _ (and_parts (nat_lt 2 (top a)) (every is_bracketed a) w).0) (is_more _ _ k))) h
+    either false k h = and_from _ _ (lt-ltb _ _ (beside_top op a x 2
+        (ltb-true _ _ (and_parts (nat_lt 2 (top a)) (every is_bracketed a) w).0) (leb-false _ _ k))) h
 beside_well op (binary o a b) x w u e =
     let node = (and_parts (is_bracketed (binary o a b)) (every is_bracketed a && every is_bracketed b) w).0 in
     let parts = (and_parts (is_bracketed (binary o a b)) (every is_bracketed a && every is_bracketed b) w).1 in
@@ -150,8 +138,8 @@ beside_well op (binary o a b) x w u e =
     either node parts false k h =
         well_binary o a (beside op b x) (and_parts (every is_bracketed a) (every is_bracketed b) parts).0 h
         (and_parts (nat_le (level o) (lowest a)) (nat_lt (level o) (top b)) node).0
-        (below _ _ (beside_top op b x (level o)
-        (is_below _ _ (and_parts (nat_le (level o) (lowest a)) (nat_lt (level o) (top b)) node).1) (is_more _ _ k)))
+        (lt-ltb _ _ (beside_top op b x (level o)
+        (ltb-true _ _ (and_parts (nat_le (level o) (lowest a)) (nat_lt (level o) (top b)) node).1) (leb-false _ _ k)))
 
 -- ---- what stands before an operand
 
@@ -169,7 +157,7 @@ behind_tree op t w = record {
 }
 
 high : (n : ℕ) (x : Tree) → n < 8 → top x ≡ 8 → nat_lt n (top x) ≡ true
-high n x h e = below _ _ (omega (arith, h, e))
+high n x h e = lt-ltb _ _ (omega (arith, h, e))
 
 behind_minus : (f : Tree → Tree) (front : List Token) → IsFront f front
     → IsFront (λ x. f (neg x)) (front ++ front_minus ∷ [])

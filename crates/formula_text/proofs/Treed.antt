@@ -1,8 +1,7 @@
 -- What the tree of tokens is.
 use Rattle.std.proofs.Common.{◌≡◌, ℕ, ◌≤◌, ◌<◌, min, Bool, true, false, cond, ◌&&◌, nat_le, nat_lt, List, [], ◌∷◌, ◌++◌}
 use Rattle.std.proofs.Common.{refl, sym, ap, ◌∙◌, arith, append_assoc, append-nil}
-use Rattle.std.proofs.lemmas.Bool.Decides.{nat_tests}
-use Rattle.std.proofs.lemmas.Bool.{and_parts}
+use Rattle.std.proofs.lemmas.Bool.{and_parts, le-leb, leb-true, lt-leb, ltb-true}
 use Rattle.formula_tree.specs.declared.ast.Op.{Op}
 use Rattle.formula_tree.specs.declared.ast.Op.TheVariants.{Pow, Mul, Div, Add, Sub, Eq, Ne, Lt, Gt, Le, Ge, And, Or}
 use Rattle.formula_tree.specs.declared.ast.Op.TheVariants.{Join}
@@ -12,18 +11,6 @@ use Rattle.formula_tree.specs.Shape.{every, every_one, is_bracketed, level, lowe
 use Rattle.formula_tree.specs.View.{listed}
 use Rattle.formula_text.specs.Reading.{beside, having, wanting, Open, plain, function, tree_of_tokens}
 use Rattle.formula_text.specs.Tokens.{Token, closing, infix_op, tokens, more_tokens}
-
-le_true : (a b : ℕ) → a ≤ b → nat_le a b ≡ true
-le_true a b h = grind (arith, nat_tests)
-
-le_false : (a b : ℕ) → b < a → nat_le a b ≡ false
-le_false a b h = grind (arith, nat_tests)
-
-at_most : (a b : ℕ) → nat_le a b ≡ true → a ≤ b
-at_most a b h = grind (arith, nat_tests)
-
-is_below : (a b : ℕ) → nat_lt a b ≡ true → a < b
-is_below a b h = grind (arith, nat_tests)
 
 -- on the left edge everything stays, where the operator binds at least so tightly
 lower : (op : Op) (t x : Tree) → lowest (beside op t x) ≤ min (lowest x) (level op)
@@ -65,25 +52,25 @@ taken op (span v w) x h = refl
 taken op (group a) x h = refl
 taken op (call f ts) x h = refl
 taken op (neg a) x h =
-    ap (λ c. cond c (binary op (neg a) x) (neg (beside op a x))) (le_true (level op) (lowest (neg a)) h)
+    ap (λ c. cond c (binary op (neg a) x) (neg (beside op a x))) (le-leb (level op) (lowest (neg a)) h)
 taken op (not a) x h =
-    ap (λ c. cond c (binary op (not a) x) (not (beside op a x))) (le_true (level op) (lowest (not a)) h)
+    ap (λ c. cond c (binary op (not a) x) (not (beside op a x))) (le-leb (level op) (lowest (not a)) h)
 taken op (binary o a b) x h = ap (λ c. cond c (binary op (binary o a b) x) (binary o a (beside op b x)))
-    (le_true (level op) (lowest (binary o a b)) h)
+    (le-leb (level op) (lowest (binary o a b)) h)
 
 -- and goes inside otherwise
 inside_neg : (op : Op) (a x : Tree) → lowest (neg a) < level op → beside op (neg a) x ≡ neg (beside op a x)
 inside_neg op a x h =
-    ap (λ c. cond c (binary op (neg a) x) (neg (beside op a x))) (le_false (level op) (lowest (neg a)) h)
+    ap (λ c. cond c (binary op (neg a) x) (neg (beside op a x))) (lt-leb (level op) (lowest (neg a)) h)
 
 inside_not : (op : Op) (a x : Tree) → lowest (not a) < level op → beside op (not a) x ≡ not (beside op a x)
 inside_not op a x h =
-    ap (λ c. cond c (binary op (not a) x) (not (beside op a x))) (le_false (level op) (lowest (not a)) h)
+    ap (λ c. cond c (binary op (not a) x) (not (beside op a x))) (lt-leb (level op) (lowest (not a)) h)
 
 inside_binary : (op o : Op) (a b x : Tree) → lowest (binary o a b) < level op
     → beside op (binary o a b) x ≡ binary o a (beside op b x)
 inside_binary op o a b x h = ap (λ c. cond c (binary op (binary o a b) x) (binary o a (beside op b x)))
-    (le_false (level op) (lowest (binary o a b)) h)
+    (lt-leb (level op) (lowest (binary o a b)) h)
 
 -- behind an operator a tighter one takes a part of its right operand
 passes : (p : Op) (t : Tree) → Lets (beside p t) (level p)
@@ -174,7 +161,7 @@ parts op a b h =
     let p = and_parts (is_bracketed (binary op a b)) (every is_bracketed a && every is_bracketed b) h in
     let q = and_parts (nat_le (level op) (lowest a)) (nat_lt (level op) (top b)) p.0 in
     let r = and_parts (every is_bracketed a) (every is_bracketed b) p.1 in
-    record { left = r.0; right = r.1; edge = at_most _ _ q.0; tight = is_below _ _ q.1 }
+    record { left = r.0; right = r.1; edge = leb-true _ _ q.0; tight = ltb-true _ _ q.1 }
 
 -- the arguments behind others
 abbrev further : List Tree → Trees → List Tree
@@ -211,10 +198,10 @@ mutual
       ∙ found a (λ x. x) 0 (plain f ∷ outer) (closing ∷ rest) w passes_none (one_top a)
   found (neg a) f n outer rest w p h =
       let q = and_parts (nat_lt 6 (top a)) (every is_bracketed a) w in
-      found a (λ x. f (neg x)) 6 outer rest q.1 (passes_neg f n p) (is_below _ _ q.0)
+      found a (λ x. f (neg x)) 6 outer rest q.1 (passes_neg f n p) (ltb-true _ _ q.0)
   found (not a) f n outer rest w p h =
       let q = and_parts (nat_lt 2 (top a)) (every is_bracketed a) w in
-      found a (λ x. f (not x)) 2 outer rest q.1 (passes_not f n p) (is_below _ _ q.0)
+      found a (λ x. f (not x)) 2 outer rest q.1 (passes_not f n p) (ltb-true _ _ q.0)
   found (binary op a b) f n outer rest w p h =
       let q = parts op a b w in
       ap (wanting f outer) (append_assoc (tokens a) (infix_op op ∷ tokens b) rest)

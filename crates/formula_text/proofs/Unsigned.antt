@@ -2,6 +2,7 @@
 use Rattle.std.proofs.Common.{◌≡◌, ℕ, suc, zero, ◌<◌, ◌==◌, Bool, true, false, cond, List, [], ◌∷◌, take, Option, Some}
 use Rattle.std.proofs.Common.{None, refl, sym, ◌∙◌, subst, arith}
 use Rattle.std.proofs.lemmas.Bool.Decides.{nat_tests}
+use Rattle.std.proofs.lemmas.Bool.{false_from_ne_true}
 use Rattle.fixed_value.specs.Decimals.{decimal_from, decimal_of, is_minus, places_of, whole_digits, behind_digits}
 use Rattle.fixed_value.specs.Decimals.{without_sign}
 use Rattle.fixed_value.specs.Numbers.{signed}
@@ -26,14 +27,10 @@ unsigned at bytes h =
     (decimal_from m (whole_digits (without_sign bytes)) (places_of (behind_digits (without_sign bytes))))) ≡ true)
     (sym h) (from_fine at (whole_digits (without_sign bytes)) (places_of (behind_digits (without_sign bytes))))
 
-not_true : (c : Bool) → (c ≡ true → ⊥) → c ≡ false
-not_true true h = absurd (h refl)
-not_true false h = refl
-
 no_minus : (bytes : List ℕ) → 0 < number_len bytes → is_minus bytes ≡ false
 no_minus [] h = refl
 no_minus (b ∷ bs) h =
-    not_true (b == 45) (λ (e : (b == 45) ≡ true).
+    false_from_ne_true (b == 45) (λ (e : (b == 45) ≡ true).
     (let q : b ≡ 45 = grind (arith, nat_tests) in
     let z : 0 < number_len (45 ∷ bs) = subst (λ n. 0 < number_len (n ∷ bs)) q h in
     let y : 0 < 0 = z in

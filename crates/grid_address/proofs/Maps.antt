@@ -35,6 +35,13 @@ none_by_length : {A : Type 0} (es : List A) → length es ≡ 0 → es ≡ []
 none_by_length [] h = refl
 none_by_length (e ∷ es) h = absurd (omega arith)
 
+-- a key below all others isn't found among them
+pub find_none_below : {K X : Type 0} (R : K → K → Ordering) (x : K) (es : List (K × X))
+    → AllByRecursion (λ y. R x y ≡ Less) (keys_of es) → find R x es ≡ None
+find_none_below R x [] h = refl
+find_none_below R x (e ∷ es) h =
+    ap (λ r. cond (is_eq r) (Some e.1) (find R x es)) h.0 ∙ find_none_below R x es h.1
+
 module _ {K X : Type 0} {R : K → K → Ordering} (o : IsTotalOrder R) where
   find_lookup : (es : List (K × X)) (q : K) → find R q es ≡ lookup (is_at (R q)) es
   find_lookup [] q = refl

@@ -3,11 +3,11 @@ use Rattle.std.specs.Prelude.{ℕ, ◌≡◌, ◌&&◌, cond, refl, true, nat_eq
 use Rattle.std.specs.Cmp.{IsEquivalence, IsTotalOrder, nat_cmp_total, nat_eq_equiv, tied_then, unsigned_tied}
 use Rattle.std.specs.FinMap.{get, get-insert, get-remove, insert, remove, same_map, FinMap}
 use Rattle.std.specs.Ordering.{eq_by_cmp, nat_cmp}
-use Rattle.std.proofs.Common.{sym, ◌∙◌, ap}
+use Rattle.std.proofs.Common.{sym, ◌∙◌, ap, rules}
 use Rattle.std.proofs.lemmas.Bool.{and_from, and_parts, eq-eqb, eqb-true}
 use Rattle.std.proofs.lemmas.Cmp.{on_total, then_total}
 use Rattle.std.proofs.lemmas.Map.Lookups.{CmpEqualImpliesEq, exact_pairs, exact_unsigned}
-use Rattle.grid_address.specs.Place.{place_cmp, same_place, Place}
+use Rattle.grid_address.specs.Place.{is_within, place_cmp, same_place, whole, InSheet, Place}
 
 -- cells that compare as equal are the same
 pub cells_exact : CmpEqualImpliesEq place_cmp
@@ -30,6 +30,10 @@ same_place_is a b e =
     let r : a.row ≡ b.row = eqb-true a.row b.row p.0 in
     let s : a.col ≡ b.col = eqb-true a.col b.col p.1 in
     λ i. record { row = r i; col = s i }
+
+-- the whole sheet holds each of its places
+pub in_whole : (p : Place) → InSheet p → is_within whole p ≡ true
+in_whole p h = search rules
 
 -- sameness of cells is an equivalence
 pub same_place_laws : IsEquivalence same_place

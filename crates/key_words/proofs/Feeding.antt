@@ -5,6 +5,8 @@ use Rattle.std.proofs.Common.{None, refl, ap, sym, ◌∙◌, subst, arith, appe
 use Rattle.std.specs.Prelude.{not, nat_le, ◌&&◌, ◌==◌, ◌||◌, ⊤}
 use Rattle.std.proofs.lemmas.List.{append-nil, map-append}
 use Rattle.std.proofs.lemmas.Bool.{cases_Bool, eqb-true, and_parts, or_cases, leb-true}
+use Rattle.std.proofs.lemmas.Str.Ascii.{uppercase-uppercase}
+use Rattle.list_lemmas.proofs.Mapped.{map_twice}
 use Rattle.key_words.specs.declared.key.Key.{Key}
 use Rattle.key_words.specs.declared.key.Key.TheVariants as key
 use Rattle.key_words.specs.declared.name.Named.{Named}
@@ -20,7 +22,7 @@ use Rattle.key_words.specs.Notation.{is_mark, is_typed, IsRepeat, first, later, 
 use Rattle.key_words.specs.Notation.{repeated, alone, alt, SpellsWords, one_word, line_end, Begins, IsNoText}
 use Rattle.key_words.specs.inner.Begun.{after, closed, lettered, spaced}
 use Rattle.key_words.specs.Reading.{HasRead, Holds}
-use Rattle.key_words.proofs.Tables.{folded_twice, letter_is}
+use Rattle.key_words.proofs.Tables.{letter_is}
 use Rattle.key_words.proofs.Scanning.{after_keys, begins_none, holds_scanned, Keys, Scan, scan, scan-append, scan_on}
 use Rattle.key_words.proofs.Scanning.{scan_then, text_scanned}
 
@@ -104,7 +106,7 @@ letters_stepped : (bytes : List ℕ) (b : ℕ) (l : List ℕ) → Holds bytes (L
     → Stepped bytes b (after (Letters l) b)
 letters_stepped bytes b l (x, xs, is, folds, begins) =
     let same : map to_ascii_uppercase l ≡ map to_ascii_uppercase (x ∷ xs) =
-    ap (map to_ascii_uppercase) (sym folds) ∙ folded_twice (x ∷ xs) in
+    ap (map to_ascii_uppercase) (sym folds) ∙ map_twice to_ascii_uppercase uppercase-uppercase (x ∷ xs) in
     elim (cases_Bool (b == 125)) [
       | inl t ↦
           rw t (rw (eqb-true b 125 t)

@@ -6,6 +6,8 @@ use Rattle.std.specs.Prelude.{not, nat_le, ◌&&◌, ◌==◌}
 use Rattle.std.proofs.lemmas.List.{append-nil}
 use Rattle.std.proofs.lemmas.Bool.{cases_Bool, and_parts, true≢false}
 use Rattle.std.proofs.lemmas.Bool.Decides.{nat_tests}
+use Rattle.std.proofs.lemmas.Str.Ascii.{uppercase-uppercase}
+use Rattle.list_lemmas.proofs.Mapped.{map_twice}
 use Rattle.key_words.specs.declared.key.Key.{Key}
 use Rattle.key_words.specs.declared.key.Key.TheVariants as key
 use Rattle.key_words.specs.declared.name.Named.{Named}
@@ -20,7 +22,7 @@ use Rattle.key_words.specs.Notation.{is_mark, is_typed, IsRepeat, first, later, 
 use Rattle.key_words.specs.Notation.{repeated, alone, alt, SpellsWords, nothing, one_word, line_end, Begins}
 use Rattle.key_words.specs.inner.Begun.{after, closed, lettered, spaced}
 use Rattle.key_words.specs.Reading.{Holds}
-use Rattle.key_words.proofs.Tables.{capitals_split, folded_twice, letter_apart, letter_goes_on, looked_up_proper}
+use Rattle.key_words.proofs.Tables.{capitals_split, letter_apart, letter_goes_on, looked_up_proper}
 
 -- keys with their repeats
 abbrev pub Keys : Type 0
@@ -159,7 +161,7 @@ spaced_scanned : (letters : List ℕ) (m : Named) (next : Begun) → looked_up (
     → spaced (Some m) ≡ Going next → scan Nothing (123 ∷ (letters ++ 32 ∷ [])) ≡ Some ([], next)
 spaced_scanned letters m next found is =
     let fed : after (Letters (map to_ascii_uppercase letters)) 32 ≡ Going next =
-    ap spaced (ap looked_up (folded_twice letters) ∙ found) ∙ is in
+    ap spaced (ap looked_up (map_twice to_ascii_uppercase uppercase-uppercase letters) ∙ found) ∙ is in
     scan_from Nothing (Letters (map to_ascii_uppercase letters)) (123 ∷ letters) (32 ∷ [])
     (name_scanned letters m found) ∙ rw fed refl
 
@@ -212,7 +214,7 @@ closing : (letters : List ℕ) (m : Named) (k : Key) → looked_up (map to_ascii
     → closed (Some m) ≡ Ended k 1 → scan Nothing (123 ∷ (letters ++ 125 ∷ [])) ≡ Some ((k, 1) ∷ [], Nothing)
 closing letters m k found is =
     let fed : after (Letters (map to_ascii_uppercase letters)) 125 ≡ Ended k 1 =
-    ap closed (ap looked_up (folded_twice letters) ∙ found) ∙ is in
+    ap closed (ap looked_up (map_twice to_ascii_uppercase uppercase-uppercase letters) ∙ found) ∙ is in
     scan_from Nothing (Letters (map to_ascii_uppercase letters)) (123 ∷ letters) (125 ∷ [])
     (name_scanned letters m found) ∙ rw fed refl
 
@@ -264,7 +266,8 @@ begins_none bytes none (more, keys, spelled) =
     let went_on : scan Nothing (bytes ++ more) ≡ Some (keys, Nothing) = text_scanned (bytes ++ more) keys spelled in
     cc
 
-keys_of_scan : (keys : Keys) (s : Scan) (all : Keys) (r : Begun) → after_keys keys s ≡ Some (all, r)
+-- the words of a scan begin with those that stood in front of it
+pub keys_of_scan : (keys : Keys) (s : Scan) (all : Keys) (r : Begun) → after_keys keys s ≡ Some (all, r)
     → (more : Keys) × (all ≡ keys ++ more)
 keys_of_scan keys None all r e = absurd cc
 keys_of_scan keys (Some s) all r e =

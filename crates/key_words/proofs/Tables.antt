@@ -10,7 +10,6 @@ use Rattle.std.proofs.lemmas.Bool.{cases_Bool, and_parts, and_from, eqb-true, eq
 use Rattle.std.proofs.lemmas.Slice.Eq.{bytes_eq-Decides}
 use Rattle.std.proofs.lemmas.Bool.Decides.{nat_tests}
 use Rattle.std.proofs.lemmas.Grind.{common_steps}
-use Rattle.std.proofs.lemmas.Str.Ascii.{uppercase-uppercase}
 use Rattle.key_words.specs.declared.name.Named.{Named}
 use Rattle.key_words.specs.Notation.{is_mark}
 use Rattle.key_words.specs.Reading.{BeginsName}
@@ -188,12 +187,3 @@ letter_apart b is =
       | inr f ↦ f
     ] in
     (brace, space, rw (tilde, open_brace, brace) refl)
-
--- letters that are raised twice are as raised once
-pub folded_twice : (letters : List ℕ)
-    → map to_ascii_uppercase (map to_ascii_uppercase letters) ≡ map to_ascii_uppercase letters
-folded_twice [] = refl
-folded_twice (b ∷ bs) =
-    let first : to_ascii_uppercase (to_ascii_uppercase b) ≡ to_ascii_uppercase b = uppercase-uppercase b in
-    let later : map to_ascii_uppercase (map to_ascii_uppercase bs) ≡ map to_ascii_uppercase bs = folded_twice bs in
-    cc

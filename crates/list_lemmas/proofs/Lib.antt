@@ -1,1 +1,5 @@
+pub mod Booleans
+pub mod Mapped
+pub mod Options
+pub mod Results
 pub mod Takes

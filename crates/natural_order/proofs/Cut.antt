@@ -41,36 +41,38 @@ has-filter eq same p c h (x ∷ xs) =
           (false_from_ne_true (eq c x) (λ m. true≢false (sym h ∙ ap p (same c x m) ∙ e))))
     ] refl
 
+-- what reaches a cell reaches what that cell reads
+pub reaches_read : {K : Type 0} (eq : K → K → Bool) (pre : K → List K) {q c d : K} → Reaches eq pre q c
+    → has eq (pre c) d ≡ true → Reaches eq pre q d
+reaches_read eq pre (one m) n = more m (one n)
+reaches_read eq pre (more m r) n = more m (reaches_read eq pre r n)
+
 module _ {K : Type 0} (eq : K → K → Bool) (pre : K → List K) (dirty : K → Bool) (split : IsSplit eq pre dirty) where
   -- what a clean cell reads is clean
   pub down : (c d : K) → dirty c ≡ false → has eq (pre c) d ≡ true → dirty d ≡ false
   down c d e m = false_from_ne_true (dirty d) (λ t. true≢false (sym (split.up c d m t) ∙ e))
 
-  -- what reaches a cell reaches what that cell reads
-  pub after : {q c d : K} → Reaches eq pre q c → has eq (pre c) d ≡ true → Reaches eq pre q d
-  after (one m) n = more m (one n)
-  after (more m r) n = more m (after r n)
-
   -- every clean cell on the path reaches c
-  abbrev pub Leads : List K → K → Type 0
-  Leads path c = (q : K) → has eq path q ≡ true → dirty q ≡ false → Reaches eq pre q c
+  abbrev pub CleanLeads : List K → K → Type 0
+  CleanLeads path c = (q : K) → has eq path q ≡ true → dirty q ≡ false → Reaches eq pre q c
 
   abbrev CleanStep : ℕ → Type 0
   CleanStep n =
-      (path : List K) (s : Walked K) (c : K) → dirty c ≡ false → Leads path c
+      (path : List K) (s : Walked K) (c : K) → dirty c ≡ false → CleanLeads path c
       → cut eq dirty (walk eq pre n path s c) ≡ cut eq dirty s
 
   clean_fold : (n : ℕ) → CleanStep n → (path : List K) (ds : List K) (s : Walked K)
-      → Each (λ d. (dirty d ≡ false) × Leads path d) ds → cut eq dirty (fold (walk eq pre n path) s ds) ≡ cut eq dirty s
+      → Each (λ d. (dirty d ≡ false) × CleanLeads path d) ds
+      → cut eq dirty (fold (walk eq pre n path) s ds) ≡ cut eq dirty s
   clean_fold n step path [] s h = refl
   clean_fold n step path (d ∷ ds) s h =
       clean_fold n step path ds (walk eq pre n path s d) h.1 ∙ step path s d h.0.0 h.0.1
 
   -- where the clean cells on the path reach a cell, these and the cell reach what it reads
-  pub leads_on : (path : List K) (c d : K) → Leads path c → has eq (pre c) d ≡ true → Leads (c ∷ path) d
-  leads_on path c d l m q on e = elim (or_cases (eq q c) (has eq path q) on) [
+  pub clean_leads_on : (path : List K) (c d : K) → CleanLeads path c → has eq (pre c) d ≡ true → CleanLeads (c ∷ path) d
+  clean_leads_on path c d l m q on e = elim (or_cases (eq q c) (has eq path q) on) [
     | inl h ↦ subst (λ t. Reaches eq pre t d) (sym (split.same q c h)) (one m)
-    | inr h ↦ after (l q h e) m
+    | inr h ↦ reaches_read eq pre (l q h e) m
   ]
 
   cut_clean : (c : K) (t : Walked K) → dirty c ≡ false → cut eq dirty (appended eq c t) ≡ cut eq dirty t
@@ -90,7 +92,7 @@ module _ {K : Type 0} (eq : K → K → Bool) (pre : K → List K) (dirty : K �
             → cut eq dirty (cond b (raised eq s) (appended eq c inner)) ≡ cut eq dirty s) [
               | true ↦ λ m. absurd (split.acyclic c e (l c m e))
               | false ↦ λ m. cut_clean c inner e ∙ clean_fold n (clean n) (c ∷ path) (pre c) s
-                  (Each-from_has eq split.refl_eq _ (pre c) (λ d k. (down c d e k, leads_on path c d l k)))
+                  (Each-from_has eq split.refl_eq _ (pre c) (λ d k. (down c d e k, clean_leads_on path c d l k)))
             ] refl
       ]
 
@@ -100,7 +102,7 @@ module _ {K : Type 0} (eq : K → K → Bool) (pre : K → List K) (dirty : K �
   abbrev pre_dirty : K → List K
   pre_dirty c = filter dirty (pre c)
 
-  no_lead : (path : List K) (c : K) → AllDirty path → Leads path c
+  no_lead : (path : List K) (c : K) → AllDirty path → CleanLeads path c
   no_lead path c a q m e = absurd (true≢false (sym (a q m) ∙ e))
 
   abbrev DirtyStep : ℕ → Type 0

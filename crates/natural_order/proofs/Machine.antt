@@ -10,6 +10,7 @@ use Rattle.std.proofs.lemmas.List.Folds.{list_any-append}
 use Rattle.std.proofs.lemmas.List.Sums.{sum_by-append, sum_by-cons, sum_by-le-sum_by}
 use Rattle.std.proofs.Math.Seq.{drop-cons}
 use Rattle.std.proofs.lemmas.Map.Made.{length-le_from_is_member}
+use Rattle.std.proofs.Math.Bool.{or-false}
 use Rattle.grid_address.specs.Place.{same_place, Place}
 use Rattle.grid_address.proofs.Places.{same_place_is, same_place_itself, same_place_laws}
 use Rattle.cell_maps.specs.Sets.{has}
@@ -80,11 +81,7 @@ module _ (pre : Place → List Place) (all done path : List Place) (stack : List
   room = let h = all_fit pre all done path stack on in omega arith
 
   on_trail : (c : Place) → has same_place (trail [] stack) c ≡ has same_place path c
-  on_trail c = has-trail [] stack c ∙ or_none _ ∙ sym (ap (λ p. has same_place p c) on.cells)
-    where
-      or_none : (b : Bool) → (b || false) ≡ b
-      or_none true = refl
-      or_none false = refl
+  on_trail c = has-trail [] stack c ∙ or-false _ ∙ sym (ap (λ p. has same_place p c) on.cells)
 
   -- the walk of a cell on the path does no more than tell a circle
   pub visited_on_path : (circular : Bool) (c : Place) → has same_place done c ≡ false → has same_place path c ≡ true
@@ -371,12 +368,6 @@ on-begun pre all done path stack p s =
       distinct = tt;
     }))
 
--- a list has each of its items
-pub has_get : (xs : List Place) (i : ℕ) (d : Place) → i < length xs → has same_place xs (get_or xs i d) ≡ true
-has_get [] i d h = absurd (omega arith)
-has_get (x ∷ xs) zero d h = or_left _ _ (same_place_itself x)
-has_get (x ∷ xs) (suc i) d h = or_right _ _ (has_get xs i d (omega arith))
-
 -- before any frame is begun, the walk that goes on at a root is the walk of the root
 pub begun_walk : (pre : Place → List Place) (n : ℕ) (fs : List Frame) (s : Walked Place) (c : Place) → fs ≡ []
     → finish pre n [] fs (walk_on pre n (trail [] fs) s c) ≡ walk same_place pre n [] s c
@@ -405,7 +396,3 @@ advanced_less pre all done path rest f lt =
     sum_by-append (λ (g : Frame). length (left g) + 1) rest (f ∷ []) in
     let one : length (left f) ≡ suc (length (left (advanced f))) = ap length (left-advanced f f.cell lt) in
     omega arith
-
--- what is no more than a smaller number is smaller
-pub less_still : {a b c : ℕ} → a ≤ b → b < c → a < c
-less_still h k = omega (arith, h, k)

@@ -8,17 +8,12 @@ use Rattle.std.proofs.lemmas.Bool.{true≢false, or_cases, or_left, or_right, or
 use Rattle.std.proofs.lemmas.List.Folds.{list_any-append}
 use Rattle.std.proofs.lemmas.Map.Made.{length-le_from_is_member}
 use Rattle.std.proofs.lemmas.Map.Keys.{IsDistinct-cons}
+use Rattle.list_lemmas.proofs.Booleans.{or_turned, same_from_both}
 use Rattle.cell_maps.specs.Sets.{has}
 use Rattle.natural_order.specs.Walk.{Walked, appended, raised, walk, unwalked, Reaches, IsExact, Precedes, OrderCovers}
 use Rattle.natural_order.specs.Walk.{OrderPrecedes}
 use Rattle.natural_order.specs.Walk.Reaches.{one, more}
-use Rattle.natural_order.proofs.Cut.{Each, Each-from_has}
-
--- two answers that are yes for one another are the same
-pub same_bools : (a b : Bool) → (a ≡ true → b ≡ true) → (b ≡ true → a ≡ true) → a ≡ b
-same_bools true b f g = sym (f refl)
-same_bools false true f g = g refl
-same_bools false false f g = refl
+use Rattle.natural_order.proofs.Cut.{reaches_read, Each, Each-from_has}
 
 module _ {K : Type 0} (eq : K → K → Bool) (pre : K → List K) (exact : IsExact eq) where
   flips : (x y : K) → eq x y ≡ true → eq y x ≡ true
@@ -27,13 +22,9 @@ module _ {K : Type 0} (eq : K → K → Bool) (pre : K → List K) (exact : IsEx
   laws : IsEquivalence eq
   laws = record {
     refl = exact.refl_eq;
-    symm = λ x y. same_bools (eq x y) (eq y x) (flips x y) (flips y x);
+    symm = λ x y. same_from_both (eq x y) (eq y x) (flips x y) (flips y x);
     congr = λ x y z e. ap (λ v. eq v z) (exact.same x y e);
   }
-
-  after : {q c d : K} → Reaches eq pre q c → has eq (pre c) d ≡ true → Reaches eq pre q d
-  after (one m) n = more m (one n)
-  after (more m r) n = more m (after r n)
 
   -- every cell on the path reaches c
   abbrev Leads : List K → K → Type 0
@@ -42,7 +33,7 @@ module _ {K : Type 0} (eq : K → K → Bool) (pre : K → List K) (exact : IsEx
   leads_on : (path : List K) (c d : K) → Leads path c → has eq (pre c) d ≡ true → Leads (c ∷ path) d
   leads_on path c d l m q on = elim (or_cases (eq q c) (has eq path q) on) [
     | inl h ↦ subst (λ t. Reaches eq pre t d) (sym (exact.same q c h)) (one m)
-    | inr h ↦ after (l q h) m
+    | inr h ↦ reaches_read eq pre (l q h) m
   ]
 
   Precedes-snoc : (cs seen : List K) (c : K) → Precedes eq pre seen cs
@@ -52,13 +43,8 @@ module _ {K : Type 0} (eq : K → K → Bool) (pre : K → List K) (exact : IsEx
   Precedes-snoc (b ∷ cs) seen c s h = (
     s.0,
     Precedes-snoc cs (b ∷ seen) c s.1
-        (λ d m. elim (h d m) [ inl k ↦ inl (turned (eq d b) (has eq cs d) (has eq seen d) k) | inr r ↦ inr r ]),
+        (λ d m. elim (h d m) [ inl k ↦ inl (or_turned (eq d b) (has eq cs d) (has eq seen d) k) | inr r ↦ inr r ]),
   )
-    where
-      turned : (x y z : Bool) → ((x || y) || z) ≡ true → (y || (x || z)) ≡ true
-      turned true true z k = refl
-      turned true false z k = refl
-      turned false y z k = k
 
   walk-cases : (P : Walked K → Type 0) (n : ℕ) (path : List K) (s : Walked K) (c : K)
       → (has eq s.done c ≡ true → P s)

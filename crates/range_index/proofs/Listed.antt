@@ -11,6 +11,7 @@ use Rattle.std.specs.Map.{keys_of, lookup}
 use Rattle.std.proofs.Common.{sym, ◌∙◌, ap, inl, inr}
 use Rattle.std.proofs.lemmas.Bool.{cases_Bool}
 use Rattle.std.proofs.lemmas.Map.Lookups.{btree_set_from_contains}
+use Rattle.list_lemmas.proofs.Booleans.{same_from_both}
 use Rattle.grid_address.proofs.Maps.{entries_kept, equal_of, get_entries, get_lookup}
 use Rattle.grid_address.proofs.Maps as maps
 use Rattle.grid_address.proofs.Places.{cells_exact, cells_total, place_tied}
@@ -75,11 +76,6 @@ module _ (p : Place) where
       there true f = ap (λ b. b || has_place (owners_among p es) q) f
       there false f = refl
 
-  both_ways : (b c : Bool) → (b ≡ true → c ≡ true) → (c ≡ true → b ≡ true) → b ≡ c
-  both_ways true c f g = sym (f refl)
-  both_ways false true f g = g refl
-  both_ways false false f g = refl
-
   -- owners that are found in their order, all of them and no others, are the owners of a span that holds the place
   pub listed : (es : List (Place × List Extent)) → IsStrictlySortedBy place_cmp (keys_of es) → (found : BTreeSet Place)
       → IsOrdered place_cmp found
@@ -88,7 +84,7 @@ module _ (p : Place) where
       → found.keys ≡ owners_of (from_entries es) p
   listed es s found ordered owners all =
       btree_set_from_contains cells_total found (record { keys = owners_among p es }) ordered (in_order es s)
-      (λ q. both_ways _ _ (owners q) (all q) ∙ ap (λ (o : Option (List Extent)). hold (spans_in o) p)
+      (λ q. same_from_both _ _ (owners q) (all q) ∙ ap (λ (o : Option (List Extent)). hold (spans_in o) p)
       (get_entries cells_total es q) ∙ sym (among_has es s q)) cells_exact
       ∙ ap (owners_among p) (sym (entries_kept cells_total es s))
 

@@ -6,12 +6,12 @@ use Rattle.std.specs.Ordering.{is_eq, ordering_then}
 use Rattle.std.specs.Cmp.{IsTotalOrder, nat_cmp_total}
 use Rattle.std.specs.BTreeMap.{is_at}
 use Rattle.std.specs.List.{list_any}
-use Rattle.std.proofs.Common.{sym, ◌∙◌, ap, inl, inr, rules, subst}
+use Rattle.std.proofs.Common.{sym, ◌∙◌, ap, inl, inr, subst}
 use Rattle.std.proofs.lemmas.Bool.{and_from, and_parts, cases_Bool, true≢false}
 use Rattle.std.proofs.lemmas.Cmp.{on_total, then_total, tied_itself}
 use Rattle.grid_address.proofs.Maps.{equal_of}
-use Rattle.grid_address.proofs.Places.{cells_exact, cells_total, same_place_itself}
-use Rattle.grid_address.specs.Place.{is_within, place_cmp, same_place, whole, Extent, InSheet, Place}
+use Rattle.grid_address.proofs.Places.{cells_exact, cells_total, in_whole, same_place_itself}
+use Rattle.grid_address.specs.Place.{place_cmp, same_place, Extent, InSheet, Place}
 use Rattle.range_index.specs.inner.Blocks.{are_one, size_of}
 use Rattle.range_index.specs.inner.Powers.{powers_cmp, Powers}
 use Rattle.range_index.specs.inner.Registered.{block_cmp, has_registration, has_size, is_registered, registered}
@@ -52,10 +52,6 @@ gains : {K : Type 0} {R : K → K → Ordering} (total : IsTotalOrder R) (old ne
     → list_any (is_at (R q)) new ≡ true
 gains {R = R} total old new k q e h = subst (λ x. list_any (is_at (R x)) new ≡ true) e
     (h k ∙ ap (λ o. cond (is_eq o) true (list_any (is_at (R k)) old)) (tied_itself total k))
-
--- the whole sheet holds each of its places
-in_whole : (p : Place) → InSheet p → is_within whole p ≡ true
-in_whole p h = search rules
 
 -- where its size and its registration were put in, a span is registered
 pub entered : (sizes sizes' : List Powers) (rs rs' : List Registration) (z : Powers) (r : Registration) (o : Place)

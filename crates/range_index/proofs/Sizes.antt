@@ -1,8 +1,7 @@
 -- The size of which one block holds a span, and that the block holds each of the span's cells.
-use Rattle.std.specs.Prelude.{ℕ, zero, suc, ◌≡◌, ◌<◌, ◌≤◌, ◌+◌, ◌-◌, ◌/◌, ◌^◌, true, false, cond, nat_eq, nat_le, refl}
+use Rattle.std.specs.Prelude.{ℕ, zero, suc, ◌≡◌, ◌<◌, ◌≤◌, ◌+◌, ◌-◌, ◌/◌, ◌^◌, true, false, cond, nat_eq, refl}
 use Rattle.std.proofs.Common.{sym, ◌∙◌, ap, subst, arith, inl, inr}
-use Rattle.std.proofs.lemmas.Bool.{and_from, and_parts, cases_Bool, eq-eqb, eqb-true, false_from_ne_true}
-use Rattle.std.proofs.lemmas.Bool.Decides.{nat_tests}
+use Rattle.std.proofs.lemmas.Bool.{and_from, and_parts, cases_Bool, eq-eqb, eqb-true, false_from_ne_true, leb-true}
 use Rattle.std.proofs.lemmas.Nat.{le-div, pow_pos, shr_below}
 use Rattle.std.proofs.Math.Nat.{div-mul-le_self}
 use Rattle.grid_address.specs.Place.{is_within, Extent, InSheet, Place}
@@ -74,10 +73,9 @@ same_block s p one inside =
     let rows = and_parts _ _ w.0 in
     let cols = and_parts _ _ w.1 in
     let r : p.row / 2 ^ (size_of s).rows ≡ s.first.row / 2 ^ (size_of s).rows =
-    between (size_of s).rows s.first.row p.row s.last.row (le_of rows.0) (le_of rows.1) (eqb-true _ _ o.0) in
+    between (size_of s).rows s.first.row p.row s.last.row (leb-true _ _ rows.0) (leb-true _ _ rows.1)
+    (eqb-true _ _ o.0) in
     let c : p.col / 2 ^ (size_of s).cols ≡ s.first.col / 2 ^ (size_of s).cols =
-    between (size_of s).cols s.first.col p.col s.last.col (le_of cols.0) (le_of cols.1) (eqb-true _ _ o.1) in
+    between (size_of s).cols s.first.col p.col s.last.col (leb-true _ _ cols.0) (leb-true _ _ cols.1)
+    (eqb-true _ _ o.1) in
     λ i. record { size = size_of s; row = r i; col = c i }
-  where
-    le_of : {a b : ℕ} → nat_le a b ≡ true → a ≤ b
-    le_of {a} {b} h = grind (arith, nat_tests, h)

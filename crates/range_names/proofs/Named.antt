@@ -17,6 +17,7 @@ use Rattle.std.proofs.lemmas.Bool.Decides.{nat_tests}
 use Rattle.std.proofs.lemmas.List.{length-map}
 use Rattle.std.proofs.lemmas.Option.{same_Some, none-some}
 use Rattle.std.proofs.lemmas.Str.Ascii.{uppercase-uppercase}
+use Rattle.list_lemmas.proofs.Mapped.{map_twice}
 use Rattle.grid_address.proofs.Maps.{equal_of, both_parts}
 use Rattle.grid_address.specs.Place.{Extent}
 use Rattle.range_names.specs.declared.fault.NameFault.{NameFault}
@@ -66,10 +67,6 @@ name_back [] n h = zeros_end n
 name_back (b ∷ bs) n h =
     let f = first_filled b bs h in
     rw (no_zero b f.0) (ap (λ (l : List ℕ). to_ascii_uppercase b ∷ l) (name_back bs n f.1))
-
-all_twice : (name : List ℕ) → map to_ascii_uppercase (map to_ascii_uppercase name) ≡ map to_ascii_uppercase name
-all_twice [] = refl
-all_twice (b ∷ bs) = λ i. uppercase-uppercase b i ∷ all_twice bs i
 
 no_fault : (a b : Bool) (place : Option ℕ) → cond a (Some Empty) (cond b (Some TooLong) (bad_byte place)) ≡ None
     → (b ≡ false) × (place ≡ None)
@@ -140,7 +137,8 @@ is_key name h =
     let long : length (map to_ascii_uppercase name) ≡ length name = length-map name to_ascii_uppercase in (
       omega (arith, ap length back, long, short),
       ap key_of back ∙ ap (λ k. map to_ascii_uppercase (map to_ascii_uppercase name) ++ replicate (15 - k) 0) long
-          ∙ ap (λ (l : List ℕ). l ++ replicate (15 - length name) 0) (all_twice name),
+          ∙ ap (λ (l : List ℕ). l ++ replicate (15 - length name) 0)
+          (map_twice to_ascii_uppercase uppercase-uppercase name),
       ap fault_of back ∙ folded_name name h,
     )
 

@@ -1,12 +1,12 @@
 -- Why a pass along an order of the dirty formulas is a pass along all formulas in their natural order.
-use Rattle.std.specs.Prelude.{ℕ, zero, suc, ◌≡◌, ◌<◌, ◌&&◌, ◌||◌, Bool, true, false, cond, not, List, [], ◌∷◌, Option}
+use Rattle.std.specs.Prelude.{ℕ, zero, suc, ◌≡◌, ◌<◌, ◌||◌, Bool, true, false, cond, not, List, [], ◌∷◌, Option}
 use Rattle.std.specs.Prelude.{None, Some}
 use Rattle.std.specs.FinMap.{get}
 use Rattle.std.specs.List.{filter}
 use Rattle.std.specs.Option.{is_some}
 use Rattle.std.proofs.Common.{sym, ◌∙◌, ap, subst, refl, inl, inr, arith}
 use Rattle.std.proofs.lemmas.Bool.{and_parts, true≢false, false≢true, cases_Bool, false_from_ne_true, or_cases, or_left}
-use Rattle.std.proofs.lemmas.Bool.{or_right}
+use Rattle.std.proofs.lemmas.Bool.{not-true, not_from_false, or_right}
 use Rattle.grid_address.proofs.Places.{same_place_is, same_place_itself, same_places}
 use Rattle.grid_address.specs.Place.{same_place, Place}
 use Rattle.formula_tree.specs.Spans.{is_volatile, spans_of}
@@ -200,20 +200,13 @@ module _ (mean : Meaning) (ctx : Context) where
     abbrev clean : List Place
     clean = filter (λ c. not (has same_place keys c)) (formulas g)
 
-    not_true : (b : Bool) → b ≡ false → not b ≡ true
-    not_true b h = ap not h
-
-    not_false : (b : Bool) → not b ≡ true → b ≡ false
-    not_false true h = absurd (false≢true h)
-    not_false false h = refl
-
     clean_is : (c : Place) → has same_place clean c ≡ true → has same_place keys c ≡ false
-    clean_is c m = not_false (has same_place keys c)
+    clean_is c m = not-true (has same_place keys c)
         (filter_passes same_place same_place_is (λ x. not (has same_place keys x)) (formulas g) c m)
 
     clean_has : (c : Place) → is_formula_at g c ≡ true → has same_place keys c ≡ false → has same_place clean c ≡ true
     clean_has c f k = has-filter same_place same_place_is (λ x. not (has same_place keys x)) c
-        (not_true (has same_place keys c) k) (formulas g) ∙ has_formula g c ∙ f
+        (not_from_false (has same_place keys c) k) (formulas g) ∙ has_formula g c ∙ f
 
     right_first : IsRight mean ctx none meaning clean g
     right_first = record {

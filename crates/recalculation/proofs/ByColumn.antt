@@ -3,7 +3,7 @@ use Rattle.std.specs.Prelude.{ℕ, zero, suc, ◌≡◌, ◌+◌, ◌-◌, ◌<�
 use Rattle.std.specs.Prelude.{nat_le, nat_lt, refl, List, [], ◌∷◌, ◌++◌, length}
 use Rattle.std.specs.List.{filter}
 use Rattle.std.proofs.Common.{sym, ◌∙◌, ap, arith, inl, inr, append-nil, append_assoc}
-use Rattle.std.proofs.lemmas.Bool.{or_cases, or_left, or_right}
+use Rattle.std.proofs.lemmas.Bool.{false≢true, or_cases, or_left, or_right}
 use Rattle.std.proofs.lemmas.Bool.Decides.{nat_tests}
 use Rattle.std.proofs.lemmas.List.{length-append}
 use Rattle.std.proofs.lemmas.List.Folds.{list_any-append}
@@ -71,10 +71,7 @@ length_split p q r (x ∷ xs) h k = with (p x) (q x) refl refl (length_split p q
     with : (a b : Bool) → p x ≡ a → q x ≡ b → length (filter p xs) + length (filter q xs) ≡ length (filter r xs)
         → length (cond (p x) (x ∷ filter p xs) (filter p xs))
         + length (cond (q x) (x ∷ filter q xs) (filter q xs)) ≡ length (cond (r x) (x ∷ filter r xs) (filter r xs))
-    with true true a b e = absurd (apart (sym (k x) ∙ (λ i. a i && b i)))
-      where
-        apart : false ≡ true → ⊥
-        apart z = absurd cc
+    with true true a b e = absurd (false≢true (sym (k x) ∙ (λ i. a i && b i)))
     with true false a b e =
         (λ i. length (cond (a i) (x ∷ filter p xs) (filter p xs)) + length (cond (b i) (x ∷ filter q xs) (filter q xs)))
         ∙ (let g = e in omega arith)

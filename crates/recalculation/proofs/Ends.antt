@@ -7,10 +7,10 @@ use Rattle.std.specs.declared.cmp.Ordering.TheVariants.{Equal, Less}
 use Rattle.std.proofs.lemmas.Bool.{false_from_ne_true, true≢false}
 use Rattle.std.proofs.lemmas.Cmp.{tied_itself}
 use Rattle.std.proofs.lemmas.Map.Made.{length-from_same_keys}
+use Rattle.list_lemmas.proofs.Booleans.{same_from_both}
 use Rattle.grid_address.proofs.Places.{cells_total, same_place_is, same_place_laws}
 use Rattle.grid_address.specs.Place.{place_cmp, same_place, Place}
 use Rattle.natural_order.proofs.Cut.{filter_passes, has-filter}
-use Rattle.natural_order.proofs.Settle.{same_bools}
 use Rattle.cell_maps.specs.Sets.{has}
 use Rattle.natural_order.specs.Walk.{Precedes}
 use Rattle.sheet_store.specs.Grid.{formulas, Grid}
@@ -107,7 +107,7 @@ pub as_many_rest : (rest order cells : List Place) → IsDistinct same_place res
     → ((c : Place) → has same_place rest c ≡ true → has same_place order c ≡ true) → length cells ≡ length rest
 as_many_rest rest order cells r o k h = length-from_same_keys same_place_laws cells rest
     (subst (IsDistinct same_place) (sym k) (distinct_filter (has same_place rest) order o)) r
-    (λ q. same_bools _ _
+    (λ q. same_from_both _ _
     (λ m. filter_passes same_place same_place_is (has same_place rest) order q
     (sym (ap (λ cs. has same_place cs q) k) ∙ m))
     (λ t. ap (λ cs. has same_place cs q) k
@@ -137,7 +137,7 @@ pub as_many_dirty : (g : Grid) (dirty : List Place) → IsDistinct same_place di
     → length (filter (has same_place dirty) (formulas g)) ≡ length dirty
 as_many_dirty g dirty d only = length-from_same_keys same_place_laws (filter (has same_place dirty) (formulas g)) dirty
     (distinct_filter (has same_place dirty) (formulas g) (distinct_ascending (formulas g) (formulas_ascend g))) d
-    (λ q. same_bools _ _
+    (λ q. same_from_both _ _
     (λ m. filter_passes same_place same_place_is (has same_place dirty) (formulas g) q m)
     (λ t. has-filter same_place same_place_is (has same_place dirty) q t (formulas g) ∙ has_formula g q ∙ only q t))
 

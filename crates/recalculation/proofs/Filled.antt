@@ -12,6 +12,7 @@ use Rattle.std.proofs.lemmas.Bool.{cases_Bool, false_from_ne_true, true≢false}
 use Rattle.std.proofs.lemmas.Bool.Decides.{nat_tests}
 use Rattle.std.proofs.lemmas.List.Folds.{list_any-append}
 use Rattle.std.proofs.lemmas.List.Kept.{IsStrictlySortedBy-filter}
+use Rattle.std.proofs.Math.Bool.{and-true}
 use Rattle.grid_address.proofs.Places.{same_place_is}
 use Rattle.grid_address.specs.Place.{height_of, is_within, place_cmp, same_place, width_of, Extent, Place}
 use Rattle.formula_tree.specs.Values.{is_filled}
@@ -141,11 +142,7 @@ filled_is g s = same_members _ _
     ∙ sym (has_filtered (λ c. is_filled (value_at g c)) (cells_of s) d
     ∙ ap (λ b. is_filled (value_at g d) && b) (has_cells s d)))
   where
-    all : (b : Bool) → (b && true) ≡ b
-    all true = refl
-    all false = refl
-
     told : (d : Place) (o : Option CellState) → (is_filled (value_of o) && passes_at
         (λ e. is_within s e.0 && any_state e.1) d o) ≡ (is_filled (value_of o) && is_within s d)
     told d None = refl
-    told d (Some x) = ap (λ b. is_filled x.value && b) (all (is_within s d))
+    told d (Some x) = ap (λ b. is_filled x.value && b) (and-true (is_within s d))

@@ -1,15 +1,15 @@
 -- What the walk over the dirty formulas makes of the natural order.
-use Rattle.std.specs.Prelude.{◌≡◌, ◌&&◌, Bool, true, false, cond, Option, None, Some, List, [], ◌∷◌, length}
-use Rattle.std.specs.List.{filter, IsDistinct}
+use Rattle.std.specs.Prelude.{◌≡◌, ◌&&◌, Bool, true, false, cond, Option, None, Some, List, [], ◌∷◌}
+use Rattle.std.specs.List.{filter}
 use Rattle.std.specs.Option.{is_some}
 use Rattle.std.proofs.Common.{sym, ◌∙◌, ap, subst, refl, inl, inr}
 use Rattle.std.proofs.lemmas.Bool.{true≢false, cases_Bool, false_from_ne_true, cond-false}
-use Rattle.std.proofs.lemmas.Map.Made.{length-from_same_keys}
-use Rattle.grid_address.proofs.Places.{same_place_is, same_place_itself, same_place_laws}
+use Rattle.list_lemmas.proofs.Booleans.{same_from_both}
+use Rattle.grid_address.proofs.Places.{same_place_is, same_place_itself}
 use Rattle.grid_address.specs.Place.{same_place, Place}
 use Rattle.formula_tree.specs.Tree.{Tree}
 use Rattle.natural_order.proofs.Cut.{filter_in, filter_passes, has-filter, order_is_cut}
-use Rattle.natural_order.proofs.Settle.{order_covers, order_precedes, same_bools}
+use Rattle.natural_order.proofs.Settle.{order_covers, order_precedes}
 use Rattle.natural_order.specs.Machine.{fuel}
 use Rattle.cell_maps.specs.Sets.{has}
 use Rattle.natural_order.specs.Walk.{order, IsExact, IsSplit, Precedes, Reaches, Walked}
@@ -64,18 +64,14 @@ module _ (g : Grid) (dirty : Place → Bool) (split : IsSplit same_place (pre g)
 
   -- and no other
   pub order_same : (c : Place) → has same_place (filter dirty (natural_order g).done) c ≡ dirty c
-  order_same c = same_bools _ _ (filter_passes same_place same_place_is dirty (natural_order g).done c) (order_has c)
+  order_same c =
+      same_from_both _ _ (filter_passes same_place same_place_is dirty (natural_order g).done c) (order_has c)
 
   -- along it what a formula reads comes first, unless it reaches itself
   pub order_goes : Precedes same_place (λ c. filter dirty (pre g c)) [] (walked_dirty g dirty).done
   order_goes = order_precedes same_place exact (λ c. filter dirty (pre g c)) (formulas g) (filter dirty (formulas g))
       (λ c d m. pre_formulas g c d (filter_in same_place same_place_is dirty (pre g c) d m))
       (λ c m. filter_in same_place same_place_is dirty (formulas g) c m)
-
--- distinct cells with the same members are as many
-pub as_many : (xs ys : List Place) → IsDistinct same_place xs → IsDistinct same_place ys
-    → ((c : Place) → has same_place xs c ≡ has same_place ys c) → length xs ≡ length ys
-as_many xs ys d e h = length-from_same_keys same_place_laws xs ys d e h
 
 -- what stays dirty stays so in a grid with the same formulas
 pub stays_along : (a b : Grid) → formula_at a ≡ formula_at b → {c : Place} → StaysDirty a c → StaysDirty b c

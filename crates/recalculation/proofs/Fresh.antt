@@ -22,9 +22,10 @@ use Rattle.recalculation.specs.Passes.{IsSound, Meaning}
 use Rattle.recalculation.specs.Reading.{is_formula_at, node_of, pre}
 use Rattle.recalculation.specs.inner.Graphs.{with_formula}
 
-start : (g : Grid) {c d : Place} → Reaches same_place (pre g) c d → is_formula_at g c ≡ true
-start g {c} {d} (one m) = reads_formula g c d m
-start g {c} (more {e = e} m r) = reads_formula g c e m
+-- what reaches a cell is a formula
+pub reaching_is_formula : (g : Grid) {c d : Place} → Reaches same_place (pre g) c d → is_formula_at g c ≡ true
+reaching_is_formula g {c} {d} (one m) = reads_formula g c d m
+reaching_is_formula g {c} (more {e = e} m r) = reads_formula g c e m
 
 -- where every formula is dirty, what holds of the dirty ones holds
 pub sound_whole : (g : Grid) (dirty : Place → Bool) → ((c : Place) → dirty c ≡ is_formula_at g c)
@@ -33,7 +34,7 @@ sound_whole g dirty h mean ctx = record {
   only = λ c t. sym (h c) ∙ t;
   up = λ c d m t. h c ∙ reads_formula g c d m;
   calm = λ c t here e. absurd (true≢false (sym (h c ∙ ap is_some here) ∙ e));
-  acyclic = λ c e r. true≢false (sym (h c ∙ start g r) ∙ e);
+  acyclic = λ c e r. true≢false (sym (h c ∙ reaching_is_formula g r) ∙ e);
   right = λ c t here e. absurd (true≢false (sym (h c ∙ ap is_some here) ∙ e));
 }
 

@@ -1,16 +1,18 @@
 -- Why the formulas that are held, tried in order, are those that stay dirty.
 use Rattle.std.specs.Prelude.{ℕ, zero, suc, ◌≡◌, ◌<◌, Bool, true, false, cond, List, [], ◌∷◌, ◌++◌, Option, None, Some}
 use Rattle.std.specs.Prelude.{◌||◌, ◌⊎◌, length, take}
-use Rattle.std.specs.List.{filter, list_any}
+use Rattle.std.specs.List.{filter}
 use Rattle.std.proofs.Common.{sym, ◌∙◌, ap, subst, refl, inl, inr, arith, get_or}
-use Rattle.std.proofs.lemmas.Bool.{true≢false, false≢true, false_from_ne_true, or_cases, or_left, or_right, or_parts}
+use Rattle.std.proofs.lemmas.Bool.{true≢false, false≢true, false_from_ne_true, or_cases, or_left, or_parts}
 use Rattle.std.proofs.lemmas.Bool.{cases_Bool}
 use Rattle.std.proofs.lemmas.List.Folds.{list_any-append}
+use Rattle.list_lemmas.proofs.Booleans.{or_turned}
 use Rattle.grid_address.proofs.Places.{same_place_is, same_place_itself}
 use Rattle.grid_address.specs.Place.{same_place, Place}
 use Rattle.formula_tree.specs.Tree.{Tree}
 use Rattle.natural_order.proofs.Cut.{filter_in, has-filter}
 use Rattle.cell_maps.specs.Sets.{has}
+use Rattle.cell_maps.proofs.Members.{any_at, some_at}
 use Rattle.natural_order.specs.Walk.{Precedes, Reaches}
 use Rattle.natural_order.specs.Walk.Reaches.{one, more}
 use Rattle.sheet_store.specs.Grid.{Grid}
@@ -29,30 +31,9 @@ precedes_at p seen (y ∷ ys) zero x any s h e d m =
     (elim (s.0 d (subst (λ z. has same_place (p z) d ≡ true) e m)) [ inl k ↦ inl (or_left _ _ k) | inr r ↦ inr r ])
 precedes_at p seen (y ∷ ys) (suc i) x any s h e d m =
     elim (precedes_at p (y ∷ seen) ys i x any s.1 (omega arith) e d m) [
-      | inl k ↦ inl (turned (same_place d y) (has same_place seen d) (has same_place (take i ys) d) k)
+      | inl k ↦ inl (or_turned (same_place d y) (has same_place seen d) (has same_place (take i ys) d) k)
       | inr r ↦ inr r
     ]
-  where
-    turned : (a b d : Bool) → ((a || b) || d) ≡ true → (b || (a || d)) ≡ true
-    turned true true d k = refl
-    turned true false d k = refl
-    turned false b d k = k
-
-any_at : (p : Place → Bool) (xs : List Place) (d : Place) → has same_place xs d ≡ true → p d ≡ true
-    → list_any p xs ≡ true
-any_at p [] d m h = absurd (false≢true m)
-any_at p (x ∷ xs) d m h = elim (or_cases (same_place d x) (has same_place xs d) m) [
-  | inl e ↦ or_left _ _ (ap p (sym (same_place_is d x e)) ∙ h)
-  | inr k ↦ or_right _ _ (any_at p xs d k h)
-]
-
-some_at : (p : Place → Bool) (xs : List Place) → list_any p xs ≡ true
-    → (d : Place) × (has same_place xs d ≡ true) × (p d ≡ true)
-some_at p [] h = absurd (false≢true h)
-some_at p (x ∷ xs) h = elim (or_cases (p x) (list_any p xs) h) [
-  | inl e ↦ (x, or_left _ _ (same_place_itself x), e)
-  | inr k ↦ let r = some_at p xs k in (r.0, or_right _ _ r.1, r.2)
-]
 
 wider : (g : Grid) (old : Place → Bool) → {c d : Place} → Reaches same_place (λ x. filter old (pre g x)) c d
     → Reaches same_place (pre g) c d
@@ -73,12 +54,15 @@ module _ (g : Grid) (old now : Place → Bool) (seen : List Place) (x : Place) (
   pub not_held : is_held g now x ≡ false → {c : Place} → StaysDirty g c → c ≡ x → ⊥
   not_held h (volatile {c = c} {t = f} e v) is =
       true≢false (sym (ap volatile_of (sym (ap (formula_at g) is) ∙ e) ∙ v) ∙ (or_parts _ _ h).0)
-  not_held h (circle {c = c} (one m)) is = true≢false (sym (any_at now (pre g x) c
+  not_held h (circle {c = c} (one m)) is = true≢false (sym (
+      any_at same_place same_place_is same_place_itself now (pre g x) c
       (subst (λ y. has same_place (pre g y) c ≡ true) is m) (so.all c (circle (one m)))) ∙ (or_parts _ _ h).1)
   not_held h (circle {c = c} (more {e = e} m r)) is =
-      true≢false (sym (any_at now (pre g x) e (subst (λ y. has same_place (pre g y) e ≡ true) is m)
+      true≢false (sym (any_at same_place same_place_is same_place_itself now (pre g x) e
+      (subst (λ y. has same_place (pre g y) e ≡ true) is m)
       (so.all e (circle (joined g r m)))) ∙ (or_parts _ _ h).1)
-  not_held h (reading {c = c} {d = d} m s) is = true≢false (sym (any_at now (pre g x) d
+  not_held h (reading {c = c} {d = d} m s) is = true≢false (sym (
+      any_at same_place same_place_is same_place_itself now (pre g x) d
       (subst (λ y. has same_place (pre g y) d ≡ true) is m) (so.all d s)) ∙ (or_parts _ _ h).1)
 
   -- one that is held stays, where what it reads was tried before it
@@ -87,7 +71,7 @@ module _ (g : Grid) (old now : Place → Bool) (seen : List Place) (x : Place) (
   held before h = elim (or_cases _ _ h) [
     | inl v ↦ volatile_stays g x (formula_at g x) refl v
     | inr k ↦
-        let r = some_at now (pre g x) k in
+        let r = some_at same_place same_place_is same_place_itself now (pre g x) k in
         elim (before r.0 (has-filter same_place same_place_is old r.0 (so.within r.0 r.2) (pre g x) ∙ r.1)) [
           | inl s ↦ reading r.1 (so.earned r.0 s r.2)
           | inr c ↦ circle (wider g old c)

@@ -17,7 +17,8 @@ volatile_told : (o : Option Tree) (c : Place) → graph.is_volatile (node_of o c
 volatile_told None c = refl
 volatile_told (Some t) c = refl
 
-held_told : (o : Option Tree) (c d : Place) → holds (node_of o c) d ≡ hold (spans_in o c) d
+-- what a formula's node holds is what its spans hold
+pub held_told : (o : Option Tree) (c d : Place) → holds (node_of o c) d ≡ hold (spans_in o c) d
 held_told None c d = refl
 held_told (Some t) c d = refl
 

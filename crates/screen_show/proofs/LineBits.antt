@@ -87,32 +87,6 @@ module _ (bits row rest : ℕ) (is : rest ≡ bit_and bits (2 ^ 32 - 2 ^ row)) w
   pub none_behind : rest ≡ 0 → (k : ℕ) → row ≤ k → k < 25 → slice_get (lines_of 25 bits) k ≡ Some false
   none_behind empty k from inside = is_out k from inside (ap (λ (n : ℕ). bit_at n k) empty ∙ bit_at-zero k)
 
-  -- the place of the lowest of them
-  module _ (place next : ℕ) (one : bit_at rest place ≡ 1) (lowest : (i : ℕ) → i < place → bit_at rest i ≡ 0)
-      (small : place < 32)
-      (next_is : next ≡ min place 25) where
-    found_behind : row ≤ place
-    found_behind = elim (cases_lt place row) [
-      | inl before ↦ (let none : bit_at rest place ≡ 0 = cleared place before in absurd (omega arith))
-      | inr from ↦ from
-    ]
-
-    -- the next line stands no earlier
-    pub next_behind : row ≤ 25 → row ≤ next
-    next_behind within = omega (arith, found_behind)
-
-    -- no line before it is in the set
-    pub passed_before : (k : ℕ) → row ≤ k → k < next → slice_get (lines_of 25 bits) k ≡ Some false
-    passed_before k from before = is_out k from (omega arith) (lowest k (omega arith))
-
-    -- it is in the set
-    pub found_there : next ≤ 24 → slice_get (lines_of 25 bits) next ≡ Some true
-    found_there inside =
-        let same : next ≡ place = omega arith in
-        let below : place < 25 = omega arith in
-        rw same (line_at 25 bits place below
-        ∙ ap (λ (m : ℕ). Some (m == 1)) (sym (kept place found_behind small) ∙ one))
-
 -- the bits from a row on, as they are computed
 abbrev pub rest_from : ℕ → ℕ → ℕ
 rest_from bits row = bit_and bits (4294967295 * 2 ^ row % 4294967296)
@@ -138,23 +112,38 @@ module _ (bits row : ℕ) (row_in : row ≤ 25) where
       | inr none ↦ absurd (some (omega arith))
     ]
 
+    -- the place of the lowest of them
+    abbrev place : ℕ
+    place = trailing_zeros w32 (rest_from bits row)
+
+    lowest : (place < 32) × (bit_at (rest_from bits row) place ≡ 1)
+        × ((i : ℕ) → i < place → bit_at (rest_from bits row) i ≡ 0)
+    lowest = bit_at-trailing_zeros w32 (rest_from bits row) positive small
+
+    found_behind : row ≤ place
+    found_behind = elim (cases_lt place row) [
+      | inl before ↦ (
+          let none : bit_at (rest_from bits row) place ≡ 0 =
+          cleared bits row (rest_from bits row) masked place before in
+          absurd (omega (arith, none, lowest.1)))
+      | inr from ↦ from
+    ]
+
     -- the next line stands no earlier than the first that is asked for
     pub next_on : row ≤ next
-    next_on =
-        let lowest = bit_at-trailing_zeros w32 (rest_from bits row) positive small in
-        next_behind bits row (rest_from bits row) masked (trailing_zeros w32 (rest_from bits row)) next lowest.1
-        lowest.2 lowest.0 next_is row_in
+    next_on = omega (arith, found_behind, next_is, row_in)
 
     -- no line between them is in the set
     pub next_passed : (k : ℕ) → row ≤ k → k < next → slice_get (lines_of 25 bits) k ≡ Some false
-    next_passed =
-        let lowest = bit_at-trailing_zeros w32 (rest_from bits row) positive small in
-        passed_before bits row (rest_from bits row) masked (trailing_zeros w32 (rest_from bits row)) next lowest.1
-        lowest.2 lowest.0 next_is
+    next_passed k from before =
+        is_out bits row (rest_from bits row) masked k from (omega (arith, next_is, before))
+        (lowest.2 k (omega (arith, next_is, before)))
 
     -- it is in the set, if it is a line
     pub next_there : next ≤ 24 → slice_get (lines_of 25 bits) next ≡ Some true
-    next_there =
-        let lowest = bit_at-trailing_zeros w32 (rest_from bits row) positive small in
-        found_there bits row (rest_from bits row) masked (trailing_zeros w32 (rest_from bits row)) next lowest.1
-        lowest.2 lowest.0 next_is
+    next_there inside =
+        let same : next ≡ place = omega (arith, next_is, inside) in
+        let below : place < 25 = omega (arith, next_is, inside) in
+        rw same (line_at 25 bits place below
+        ∙ ap (λ (m : ℕ). Some (m == 1))
+        (sym (kept bits row (rest_from bits row) masked place found_behind lowest.0) ∙ lowest.1))

@@ -3,10 +3,8 @@ use Rattle.std.proofs.Common.{◌≡◌, ℕ, zero, suc, ◌+◌, ◌-◌, ◌�
 use Rattle.std.proofs.Common.{inl, inr}
 use Rattle.std.proofs.lemmas.Bool.{cases_Bool}
 use Rattle.std.proofs.lemmas.Bool.Decides.{nat_tests}
+use Rattle.std.proofs.Math.Nat.{add-zero}
 use Rattle.serial_date.specs.Calendar.{piece_of, total}
-
-plus_zero : (n : ℕ) → n + 0 ≡ n
-plus_zero n = omega arith
 
 zero_plus : (n : ℕ) → 0 + n ≡ n
 zero_plus n = omega arith
@@ -32,7 +30,7 @@ in_first length count first n more below =
       few = omega arith;
       is = omega arith;
       from = more;
-      upto = subst (λ k. n ≤ length k) (sym (plus_zero first)) below;
+      upto = subst (λ k. n ≤ length k) (sym (add-zero first)) below;
     }
 
 -- a count up to a total lies in one of the parts
@@ -60,12 +58,12 @@ pub walk : (length : ℕ → ℕ) (j count first r : ℕ) → j ≤ count → 1 
     → piece_of length count first (total length first j + r) ≡ (first + j, r)
 unfolding total piece_of
 walk length zero zero first r few more below =
-    ap (λ k. (k, 0 + r)) (sym (plus_zero first)) ∙ ap (λ k. (first + 0, k)) (zero_plus r)
+    ap (λ k. (k, 0 + r)) (sym (add-zero first)) ∙ ap (λ k. (first + 0, k)) (zero_plus r)
 walk length zero (suc count) first r few more below =
     let here : nat_le (0 + r) (length first) ≡ true =
-    (let short : r ≤ length first = subst (λ k. r ≤ length k) (plus_zero first) below in
+    (let short : r ≤ length first = subst (λ k. r ≤ length k) (add-zero first) below in
     grind (arith, nat_tests, short)) in
-    rw here (ap (λ k. (k, 0 + r)) (sym (plus_zero first)) ∙ ap (λ k. (first + 0, k)) (zero_plus r))
+    rw here (ap (λ k. (k, 0 + r)) (sym (add-zero first)) ∙ ap (λ k. (first + 0, k)) (zero_plus r))
 walk length (suc j) zero first r few more below = absurd (omega (arith, few))
 walk length (suc j) (suc count) first r few more below =
     let later : nat_le (length first + total length (first + 1) j + r) (length first) ≡ false =
@@ -79,13 +77,13 @@ walk length (suc j) (suc count) first r few more below =
 pub total_more : (length : ℕ → ℕ) (first count : ℕ)
     → total length first (suc count) ≡ total length first count + length (first + count)
 unfolding total
-total_more length first zero = omega (arith, ap length (plus_zero first))
+total_more length first zero = omega (arith, ap length (add-zero first))
 total_more length first (suc count) =
     omega (arith, total_more length (first + 1) count, ap length (plus_suc first count))
 
 -- more parts make no smaller total
 pub total_grows : (length : ℕ → ℕ) (first count more : ℕ) → total length first count ≤ total length first (count + more)
-total_grows length first count zero = omega (arith, ap (total length first) (plus_zero count))
+total_grows length first count zero = omega (arith, ap (total length first) (add-zero count))
 total_grows length first count (suc more) =
     omega (
       arith,

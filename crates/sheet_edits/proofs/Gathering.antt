@@ -1,11 +1,12 @@
 -- Writes that are gathered, one after another.
 use Rattle.std.specs.Prelude.{ℕ, ◌≡◌, ◌+◌, ◌<◌, Bool, true, false, cond, not, nat_eq, refl, take, length, List, [], ◌∷◌}
-use Rattle.std.specs.Prelude.{◌++◌, Option, None, Some, OnOk, Result, Ok, Err}
+use Rattle.std.specs.Prelude.{◌++◌, Option, None, Some}
 use Rattle.std.specs.FinMap.{empty, get, get-empty, insert}
 use Rattle.std.proofs.Common.{sym, suc, zero, arith, ◌∙◌, ap, get_or, inl, inr, subst}
 use Rattle.std.proofs.lemmas.Bool.{cases_Bool, or_left, or_right, true≢false}
 use Rattle.std.proofs.lemmas.Bool.Decides.{nat_tests}
 use Rattle.std.proofs.lemmas.List.{map-append, take_more}
+use Rattle.std.proofs.lemmas.Option.{none-some, same_Some}
 use Rattle.grid_address.proofs.Places.{get_inserted}
 use Rattle.grid_address.specs.Place.{place_cmp, same_place, Place}
 use Rattle.grid_address.specs.declared.format.Format.{Format}
@@ -18,8 +19,8 @@ use Rattle.sheet_store.specs.Grid.{Cells, Grid, IsSound}
 use Rattle.sheet_store.specs.State.{CellState}
 use Rattle.sheet_store.specs.declared.writes.Write.{Write}
 use Rattle.sheet_edits.proofs.Listed.{pushed}
-use Rattle.sheet_edits.proofs.Overlaid.{get_put, none_not_some, same_grid}
-use Rattle.sheet_edits.proofs.Sound.{first_sound, the_same}
+use Rattle.sheet_edits.proofs.Overlaid.{get_put, same_grid}
+use Rattle.sheet_edits.proofs.Sound.{first_sound}
 use Rattle.sheet_edits.specs.Spans.{changed, kept_of, write_state, written_all, written_by, written_cells, AreGathered}
 use Rattle.sheet_edits.specs.Spans.{Becomes}
 
@@ -66,7 +67,7 @@ nothing_gathered g listed changes e k = record {
   held =
       λ c. ap (λ m. changed (get m c) (get g.cells c)) k ∙ ap (λ o. changed o (get g.cells c)) (get-empty place_cmp c);
   given = λ c f. ap (λ m. get m c) k ∙ get-empty place_cmp c;
-  sound = λ c s h. absurd (none_not_some s (sym (ap (λ m. get m c) k ∙ get-empty place_cmp c) ∙ h));
+  sound = λ c s h. absurd (none-some s (sym (ap (λ m. get m c) k ∙ get-empty place_cmp c) ∙ h));
 }
 
 module _ (g : Grid) (all : List Write) (i : ℕ) (w : Write) (is : w ≡ get_or all i w) (lt : i < length all)
@@ -118,7 +119,7 @@ module _ (g : Grid) (all : List Write) (i : ℕ) (w : Write) (is : w ≡ get_or 
       ]
 
       here : (c : Place) (s : CellState) → same_place c w.cell ≡ true → get next c ≡ Some s → IsSound s
-      here c s t e = subst IsSound (the_same state s (sym (ap (λ m. get m c) put ∙ get_inserted changes w.cell state c
+      here c s t e = subst IsSound (same_Some state s (sym (ap (λ m. get m c) put ∙ get_inserted changes w.cell state c
           ∙ ap (λ b. cond b (Some state) (get changes c)) t) ∙ e))
           (first_sound w.content)
 
@@ -128,8 +129,3 @@ pub written_is : (g h : Grid) (ws : List Write) (listed : List Place) (changes :
     → h ≡ written_all g ws
 written_is g h ws listed changes k b = same_grid h (written_all g ws) (λ c. b.cells c ∙ k.held c)
     (b.widths ∙ sym (written_widths g ws)) (b.hidden ∙ sym (written_hidden g ws))
-
--- what follows from what holds of a good answer holds of it too
-pub on_ok : {A B : Type 0} (r : Result A B) {P Q : Type 0} → (P → Q) → OnOk r P → OnOk r Q
-on_ok (Ok x) f p = f p
-on_ok (Err e) f p = p

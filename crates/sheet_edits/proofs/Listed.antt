@@ -2,31 +2,21 @@
 use Rattle.std.specs.Prelude.{ℕ, ◌≡◌, ◌+◌, ◌<◌, ◌&&◌, ◌||◌, Bool, true, false, cond, refl, take, length, List, [], ◌∷◌}
 use Rattle.std.specs.Prelude.{◌++◌, Option, None, Some}
 use Rattle.std.specs.FinMap.{get, remove}
-use Rattle.std.proofs.Common.{sym, suc, zero, arith, ◌∙◌, ap, get_or, inl, inr, subst}
+use Rattle.std.proofs.Common.{sym, ◌∙◌, ap, get_or, inl, inr, subst}
 use Rattle.std.proofs.lemmas.Bool.{cases_Bool, false≢true, or_cases, or_left, or_right, true≢false}
 use Rattle.std.proofs.lemmas.List.{append_assoc, take_more}
 use Rattle.std.proofs.lemmas.List.Folds.{list_any-append}
-use Rattle.grid_address.proofs.Places.{get_inserted, get_removed, same_place_is, same_place_itself}
+use Rattle.list_lemmas.proofs.Booleans.{same_from_both}
+use Rattle.grid_address.proofs.Places.{get_inserted, get_removed, same_place_is}
 use Rattle.grid_address.specs.Place.{same_place, Place}
 use Rattle.depend_graph.specs.Sets.{Extends}
 use Rattle.cell_maps.specs.Sets.{has, insert_key}
+use Rattle.cell_maps.proofs.Members.{has_get}
 use Rattle.sheet_store.specs.Grid.{Cells}
 use Rattle.sheet_store.specs.State.{CellState}
 use Rattle.sheet_edits.proofs.Dirtied.{inserted_members}
 use Rattle.sheet_edits.specs.Spans.{AreGiven}
 use Rattle.sheet_edits.specs.inner.Putting.{given_at}
-
--- two answers that are yes for one another are the same
-pub both : (a b : Bool) → (a ≡ true → b ≡ true) → (b ≡ true → a ≡ true) → a ≡ b
-both true b h k = sym (h refl)
-both false true h k = k refl
-both false false h k = refl
-
--- the cell at a place is one of the list
-pub among : (cells : List Place) (i : ℕ) (d : Place) → i < length cells → has same_place cells (get_or cells i d) ≡ true
-among [] i d lt = absurd (omega (arith, lt))
-among (y ∷ ys) zero d lt = or_left _ _ (same_place_itself y)
-among (y ∷ ys) (suc i) d lt = or_right _ _ (among ys i d (omega (arith, lt)))
 
 module _ (cells : List Place) (i : ℕ) (x : Place) (is : x ≡ get_or cells i x) (lt : i < length cells) where
   -- the list as far as the next cell
@@ -47,7 +37,7 @@ module _ (cells : List Place) (i : ℕ) (x : Place) (is : x ≡ get_or cells i x
 
   -- the cell that comes next is one of the list
   pub is_among : has same_place cells x ≡ true
-  is_among = subst (λ y. has same_place cells y ≡ true) (sym is) (among cells i x lt)
+  is_among = subst (λ y. has same_place cells y ≡ true) (sym is) (has_get cells i x lt)
 
 -- one case within another is the case of either
 pub joined : {A : Type 0} (h s : Bool) (n o : A) → cond s n (cond h n o) ≡ cond (h || (s || false)) n o
@@ -59,7 +49,7 @@ joined false false n o = refl
 -- a list into which a cell was put has what it had, or the cell
 pub inserted_is : (keys : List Place) (k c : Place)
     → has same_place (insert_key same_place keys k) c ≡ (has same_place keys c || same_place c k)
-inserted_is keys k c = both _ _
+inserted_is keys k c = same_from_both _ _
     (λ t. elim ((inserted_members keys k c).0 t) [ inl a ↦ or_left _ _ a | inr b ↦ or_right _ _ b ])
     (λ t. (inserted_members keys k c).1 (elim (or_cases _ _ t) [ inl a ↦ inl a | inr b ↦ inr b ]))
 

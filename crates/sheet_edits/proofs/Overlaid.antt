@@ -4,6 +4,7 @@ use Rattle.std.specs.Prelude.{refl, take, length, List, [], ◌∷◌, Option, N
 use Rattle.std.specs.FinMap.{get, insert, remove}
 use Rattle.std.proofs.Common.{sym, ◌∙◌, ap, get_or, inl, inr, subst}
 use Rattle.std.proofs.lemmas.Bool.{and_from, and_parts, cases_Bool, false≢true, or_cases, or_left, or_right, true≢false}
+use Rattle.std.proofs.lemmas.Option.{none-some}
 use Rattle.grid_address.proofs.Places.{get_inserted, get_removed, same_place_is, same_place_itself, same_places}
 use Rattle.grid_address.specs.Place.{same_place, Place}
 use Rattle.grid_address.specs.declared.format.Format.{Format}
@@ -75,10 +76,6 @@ put_case true false w v o e = refl
 put_case false true w v o e = ap (λ z. changed z o) e
 put_case false false w v o e = refl
 
--- None is no Some
-pub none_not_some : {A : Type 0} (x : A) → None ≡ Some x → ⊥
-none_not_some x e = false≢true (ap is_some e)
-
 module _ (cells : List Place) (i : ℕ) (x : Place) (is : x ≡ get_or cells i x) (lt : i < length cells) (old : Grid)
     (first : Cells) (g : Grid) (changes : Cells)
     (store : Becomes old
@@ -108,7 +105,7 @@ module _ (cells : List Place) (i : ℕ) (x : Place) (is : x ≡ get_or cells i x
   pub room_next : HaveRoom first (has same_place cells) old → (s : CellState) → get changes x ≡ Some s
       → is_kept s ≡ true → get g.cells x ≡ None → ⊥
   room_next room s some kept gone = elim (cases_Bool (has same_place (take i cells) x)) [
-    | inl t ↦ none_not_some s (sym (rest x ∙ ap (λ b. cond b None (get first x)) t) ∙ some)
+    | inl t ↦ none-some s (sym (rest x ∙ ap (λ b. cond b None (get first x)) t) ∙ some)
     | inr f ↦ room x s (is_among cells i x is lt) (sym (rest x ∙ ap (λ b. cond b None (get first x)) f) ∙ some) kept
         (sym (store.cells x ∙ ap (λ b. cond b (changed (get first x) (get old.cells x)) (get old.cells x)) f) ∙ gone)
   ]
@@ -123,11 +120,11 @@ module _ (n : Network) (g : Grid) (c : Place) where
           → get (promoted a n c).formulas c ≡ node_of (Some t) c
       taken_here t e None k = elim o.some [
         | inl f ↦ f ∙ ap (λ z. node_of z c) e
-        | inr f ↦ absurd (none_not_some _ (sym k ∙ f ∙ ap (λ z. node_of z c) e))
+        | inr f ↦ absurd (none-some _ (sym k ∙ f ∙ ap (λ z. node_of z c) e))
       ]
       taken_here t e (Some a) k = get_inserted n.formulas c a c
           ∙ ap (λ b. cond b (Some a) (get n.formulas c)) (same_place_itself c) ∙ sym k ∙ elim o.offer [
-            | inl f ↦ absurd (none_not_some a (sym f ∙ k))
+            | inl f ↦ absurd (none-some a (sym f ∙ k))
             | inr f ↦ f ∙ ap (λ z. node_of z c) e
           ]
 
@@ -368,7 +365,7 @@ module _ (left m : Cells) (x : Place) (e : m ≡ remove left x) where
     pub put_next : (given : Cells) (old : Grid) → ArePut given old left g → ArePut given old m h
     put_next given old k = record {
       among = λ c s some. elim (cases_Bool (same_place c x)) [
-        | inl t ↦ absurd (none_not_some s (sym (taken_there c t) ∙ some))
+        | inl t ↦ absurd (none-some s (sym (taken_there c t) ∙ some))
         | inr f ↦ k.among c s (sym (left_beside c f) ∙ some)
       ];
       held = λ c. elim (cases_Bool (same_place c x)) [
@@ -384,7 +381,7 @@ module _ (left m : Cells) (x : Place) (e : m ≡ remove left x) where
     pub room_put : (cells : List Place) (i : ℕ) → x ≡ get_or cells i x → i < length cells
         → HaveRoom left (has same_place (take i cells)) g → HaveRoom m (has same_place (take (i + 1) cells)) h
     room_put cells i is lt room c s seen some kept gone = elim (cases_Bool (same_place c x)) [
-      | inl t ↦ none_not_some s (sym (taken_there c t) ∙ some)
+      | inl t ↦ none-some s (sym (taken_there c t) ∙ some)
       | inr f ↦ room c s (sym (seen_beside cells i x is lt c f) ∙ seen) (sym (left_beside c f) ∙ some) kept
           (sym (put_beside c f) ∙ gone)
     ]
@@ -491,7 +488,7 @@ put_whole cells given left old mid new outside k b = record {
       where
         at : (o : Option CellState) → get left c ≡ o → o ≡ None
         at None e = refl
-        at (Some s) e = absurd (none_not_some s (sym (outside c f) ∙ k.among c s e))
+        at (Some s) e = absurd (none-some s (sym (outside c f) ∙ k.among c s e))
 
     whole : (c : Place) → (has same_place cells c ≡ true) ⊎ (has same_place cells c ≡ false)
         → cond (has same_place cells c) (changed (get left c) (get mid.cells c)) (get mid.cells c)

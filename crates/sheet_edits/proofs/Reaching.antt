@@ -16,6 +16,7 @@ use Rattle.sheet_store.specs.Grid.{is_formula, is_kept, put_state, Grid}
 use Rattle.sheet_store.specs.State.{CellState}
 use Rattle.recalculation.specs.Context.{formula_at, formula_in, formula_of}
 use Rattle.recalculation.specs.Reading.{is_formula_at, node_of, reads_at, spans_at, spans_in, Matches}
+use Rattle.recalculation.proofs.Ordered.{held_told}
 use Rattle.sheet_edits.specs.Edits.{ReachesWritten}
 
 -- a content is a formula where there is a tree in it
@@ -91,13 +92,9 @@ module _ (h : Grid) where
 -- a graph of the formulas before, of which those at some written cells are other ones after
 module _ (g h : Grid) (written changed : Place → Bool) (sub : (c : Place) → changed c ≡ true → written c ≡ true)
     (beside : (c : Place) → changed c ≡ false → formula_at h c ≡ formula_at g c) (n : Network) (m : Matches n g) where
-  told : (o : Option Tree) (c d : Place) → holds (node_of o c) d ≡ hold (spans_in o c) d
-  told None c d = refl
-  told (Some t) c d = refl
-
   reads_are : (c d : Place) → changed c ≡ false → reads n c d ≡ hold (spans_at h c) d
   reads_are c d k =
-      ap (λ o. holds o d) (m c) ∙ told (formula_at g c) c d ∙ sym (ap (λ o. hold (spans_in o c) d) (beside c k))
+      ap (λ o. holds o d) (m c) ∙ held_told (formula_at g c) c d ∙ sym (ap (λ o. hold (spans_in o c) d) (beside c k))
 
   -- what reaches a written cell before reaches one after
   pub to_new : {c d : Place} → ReachesCell (reads n) c d → written d ≡ true → changed c ≡ false

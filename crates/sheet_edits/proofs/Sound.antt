@@ -3,6 +3,7 @@ use Rattle.std.specs.Prelude.{ℕ, ℤ, pos, ◌≡◌, Bool, true, false, cond,
 use Rattle.std.specs.FinMap.{get}
 use Rattle.std.proofs.Common.{sym, ◌∙◌, ap}
 use Rattle.std.proofs.lemmas.Bool.{true≢false}
+use Rattle.std.proofs.lemmas.Option.{none-some}
 use Rattle.grid_address.specs.Formats.{default_format}
 use Rattle.grid_address.specs.Place.{Place}
 use Rattle.grid_address.specs.declared.format.Format.{Format}
@@ -13,17 +14,9 @@ use Rattle.formula_tree.specs.declared.value.Value.TheVariants as value
 use Rattle.recalculation.specs.Context.{formula_of, value_of}
 use Rattle.sheet_store.specs.Grid.{AreHeld, Cells, Fits, IsSound}
 use Rattle.sheet_store.specs.State.{CellState}
-use Rattle.sheet_edits.proofs.Overlaid.{formula_kept, none_not_some}
+use Rattle.sheet_edits.proofs.Overlaid.{formula_kept}
 use Rattle.sheet_edits.specs.Edits.{first_value}
 use Rattle.sheet_edits.specs.Spans.{copied_state, kept_of, reformatted, AreGiven, AreSound}
-
--- two answers that are the same have the same thing in them
-pub the_same : {A : Type 0} (a b : A) → Some a ≡ Some b → a ≡ b
-the_same {A} a b e = ap (λ o. pick o) e
-  where
-    pick : Option A → A
-    pick None = a
-    pick (Some x) = x
 
 -- the states that cells are given are such as a store may have, where those that are told are
 pub given_sound : (m : Cells) (written : Place → Bool) (told : Place → Option CellState) → AreGiven m written told
@@ -32,7 +25,7 @@ given_sound m written told given sound c s e = by (written c) (sym (given c) ∙
   where
     by : (b : Bool) → cond b (told c) None ≡ Some s → IsSound s
     by true h = sound c s h
-    by false h = absurd (none_not_some s h)
+    by false h = absurd (none-some s h)
 
 num_not_blank : (x : ℤ) → value.Num x ≡ value.Blank → ⊥
 num_not_blank x e = true≢false (ap is_num e)

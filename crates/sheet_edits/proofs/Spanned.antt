@@ -8,18 +8,18 @@ use Rattle.std.specs.Ordering.{is_lt, ordering_reverse}
 use Rattle.std.proofs.Common.{sym, arith, ◌∙◌, ap, inl, inr, subst}
 use Rattle.std.proofs.lemmas.Bool.{cases_Bool, false≢true, or_cases, or_left, or_right, true≢false}
 use Rattle.std.proofs.lemmas.Bool.Decides.{nat_tests}
+use Rattle.list_lemmas.proofs.Booleans.{same_from_both}
 use Rattle.grid_address.proofs.Places.{cells_total, same_place_is, same_place_itself}
 use Rattle.grid_address.specs.Place.{height_of, is_within, place_cmp, same_place, width_of, Extent, Place}
 use Rattle.cell_maps.specs.Sets.{has}
 use Rattle.sheet_store.specs.Grid.{Cells, Grid}
-use Rattle.sheet_edits.proofs.Listed.{both}
 use Rattle.sheet_edits.specs.Spans.{before, is_marked, sooner, sooner_of}
 use Rattle.sheet_edits.specs.inner.Lines.{in_columns, in_rows}
 use Rattle.sheet_edits.specs.inner.Marks.{IsFirstMarked, IsFirstOf}
 
 -- one more row or column
 one_more : (f n r : ℕ) → (nat_le f r && nat_lt r (f + (n + 1))) ≡ ((nat_le f r && nat_lt r (f + n)) || nat_eq r (f + n))
-one_more f n r = both _ _ (λ t. grind (arith, nat_tests, t)) (λ t. grind (arith, nat_tests, t))
+one_more f n r = same_from_both _ _ (λ t. grind (arith, nat_tests, t)) (λ t. grind (arith, nat_tests, t))
 
 none_yet : (f r : ℕ) → (nat_le f r && nat_lt r (f + 0)) ≡ false
 none_yet f r = elim (cases_Bool (nat_le f r && nat_lt r (f + 0))) [
@@ -28,7 +28,7 @@ none_yet f r = elim (cases_Bool (nat_le f r && nat_lt r (f + 0))) [
 ]
 
 as_far : (f l r : ℕ) → f ≤ l → nat_lt r (f + (l + 1 - f)) ≡ nat_le r l
-as_far f l r h = both _ _ (λ t. grind (arith, nat_tests, t, h)) (λ t. grind (arith, nat_tests, t, h))
+as_far f l r h = same_from_both _ _ (λ t. grind (arith, nat_tests, t, h)) (λ t. grind (arith, nat_tests, t, h))
 
 split : (a e k : Bool) → ((a && k) || (e && k)) ≡ ((a || e) && k)
 split true true true = refl

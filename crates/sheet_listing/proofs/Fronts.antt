@@ -1,6 +1,6 @@
 -- What is written of a text, and what waits.
 use Rattle.std.proofs.Common.{◌≡◌, ℕ, List, [], ◌++◌, refl, ap, ◌∙◌, sym, subst, take, drop, append_assoc, append-nil}
-use Rattle.std.specs.Prelude.{Option, Some, None, Result, Ok, Err, OnErr}
+use Rattle.std.specs.Prelude.{Option, Some, None, Ok, Err}
 use Rattle.std.proofs.lemmas.List.{take-append-drop}
 use Rattle.outside_world.specs.Notes.{AddsBytes}
 use Rattle.outside_world.specs.declared.faults.Failed.{Failed}
@@ -108,8 +108,3 @@ cells_broken w0 w1 w2 first second s k a b is names front =
 pub end_broken : (w0 w2 w3 : Option (List ℕ)) (third all : List ℕ) → added w2 third ≡ added w0 all →
     IsFront w3 (added w2 third) → IsFront w3 (added w0 all)
 end_broken w0 w2 w3 third all parts front = subst (IsFront w3) parts front
-
--- what is known anyway
-pub on_err : {A E : Type 0} {P : Type 0} (result : Result A E) → P → OnErr result P
-on_err (Ok done) known = tt
-on_err (Err fault) known = known

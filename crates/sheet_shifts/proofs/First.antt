@@ -3,6 +3,7 @@ use Rattle.std.specs.Prelude.{ℕ, zero, suc, ◌≡◌, ◌+◌, ◌-◌, ◌�
 use Rattle.std.specs.Prelude.{Option, None, Some, refl}
 use Rattle.std.specs.Ordering.{is_gt, nat_cmp, ordering_then}
 use Rattle.std.specs.declared.cmp.Ordering.TheVariants.{Equal, Greater, Less}
+use Rattle.std.specs.Option.{option_or}
 use Rattle.std.proofs.Common.{sym, ◌∙◌, ap, arith, inl, inr}
 use Rattle.std.proofs.lemmas.Bool.{cases_Bool, or_cases, or_left, or_right, true≢false}
 use Rattle.std.proofs.lemmas.Bool.Decides.{nat_tests}
@@ -10,7 +11,7 @@ use Rattle.grid_address.specs.Place.{height_of, is_within, place_cmp, width_of, 
 use Rattle.ref_adjust.specs.Moves.{target}
 use Rattle.sheet_store.specs.Grid.{Cells}
 use Rattle.sheet_shifts.specs.Laws.{IsFirstOf, IsOrdered, IsUpTo, NamesFirst}
-use Rattle.sheet_shifts.specs.Refusals.{earlier, first_in_row, first_in_rows, first_marked, is_marked_at, or_else}
+use Rattle.sheet_shifts.specs.Refusals.{earlier, first_in_row, first_in_rows, first_marked, is_marked_at}
 
 -- places of as many columns of a row, and of as many rows
 abbrev InRow : ℕ → Place → Place → Type 0
@@ -185,7 +186,7 @@ module _ (test : Place → Bool) where
   rows_first (suc n) cols p = by (rows_first n cols (below p)) (first_in_row test cols p) (row_first cols p)
     where
       by : RowsFirst test n cols (below p) (first_in_rows test n cols (below p)) → (o : Option Place)
-          → RowFirst test cols p o → RowsFirst test (suc n) cols p (or_else o (first_in_rows test n cols (below p)))
+          → RowFirst test cols p o → RowsFirst test (suc n) cols p (option_or o (first_in_rows test n cols (below p)))
       by rest None h = rows_past n cols p (first_in_rows test n cols (below p)) h rest
       by rest (Some c) h = row_found n cols p c h
 

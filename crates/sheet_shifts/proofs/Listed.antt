@@ -3,9 +3,9 @@ use Rattle.std.specs.Prelude.{◌≡◌, ◌&&◌, Bool, true, false, cond, not,
 use Rattle.std.specs.FinMap.{entries, get, get-entries}
 use Rattle.std.specs.List.{cons_option, filter_map, AllByRecursion}
 use Rattle.std.specs.Map.{keys_of}
-use Rattle.std.proofs.Common.{sym, ◌∙◌, ap, inl, inr, rules}
+use Rattle.std.proofs.Common.{sym, ◌∙◌, ap, inl, inr}
 use Rattle.std.proofs.lemmas.Bool.{cases_Bool}
-use Rattle.grid_address.proofs.Places.{cells_exact, cells_total}
+use Rattle.grid_address.proofs.Places.{cells_exact, cells_total, in_whole}
 use Rattle.grid_address.specs.Place.{is_within, whole, Extent, InSheet, Place}
 use Rattle.ref_adjust.specs.Lines.{place_shifted}
 use Rattle.ref_adjust.specs.declared.change.Change.{Change}
@@ -36,9 +36,6 @@ pub all_states : (m : Cells) → AreStates m (entries m)
 all_states m =
     each cells_total cells_exact (λ p s. get m p ≡ Some s) (entries m) (entries_apart cells_total cells_exact m)
     (λ p s h. get-entries m p ∙ h)
-
-in_whole : (p : Place) → InSheet p → is_within whole p ≡ true
-in_whole p h = search rules
 
 -- all entries lie in the whole sheet
 pub whole_picked : (es : List (Place × CellState)) → AreAllHeld es → picked any_state whole es ≡ keys_of es

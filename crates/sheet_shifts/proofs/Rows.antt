@@ -1,8 +1,9 @@
 -- A search along rows, one step on and at its end.
 use Rattle.std.specs.Prelude.{ℕ, zero, suc, ◌≡◌, ◌+◌, ◌-◌, ◌≤◌, ◌<◌, Bool, cond, None, Some, refl}
+use Rattle.std.specs.Option.{option_or}
 use Rattle.std.proofs.Common.{◌∙◌, ap, arith}
 use Rattle.grid_address.specs.Place.{Place}
-use Rattle.sheet_shifts.specs.Refusals.{first_in_row, first_in_rows, or_else}
+use Rattle.sheet_shifts.specs.Refusals.{first_in_row, first_in_rows}
 
 -- a place so many columns on, and so many rows
 abbrev pub right_by : Place → ℕ → Place
@@ -50,11 +51,12 @@ module _ (test : Place → Bool) where
       ∙ ap (λ q. cond (test (right_by p a)) (Some (right_by p a)) (first_in_row test (n - (a + 1)) q)) (right_more p a)
 
   rows_some : (n cols : ℕ) (p : Place) → 0 < n
-      → first_in_rows test n cols p ≡ or_else (first_in_row test cols p) (first_in_rows test (n - 1) cols (down_by p 1))
+      → first_in_rows test n cols p
+      ≡ option_or (first_in_row test cols p) (first_in_rows test (n - 1) cols (down_by p 1))
   unfolding first_in_rows
   rows_some zero cols p h = absurd (omega (arith, h))
   rows_some (suc n) cols p h =
-      ap (λ k. or_else (first_in_row test cols p) (first_in_rows test k cols (down_by p 1)))
+      ap (λ k. option_or (first_in_row test cols p) (first_in_rows test k cols (down_by p 1)))
       (let e : n ≡ suc n - 1 = omega arith in e)
 
   down_more : (p : Place) (a : ℕ) → down_by (down_by p a) 1 ≡ down_by p (a + 1)
@@ -68,12 +70,12 @@ module _ (test : Place → Bool) where
   -- the search from a row on ends in it, or goes on behind it
   pub rows_step : (n cols a : ℕ) (p : Place) → a < n
       → first_in_rows test (n - a) cols (down_by p a)
-      ≡ or_else (first_in_row test cols (down_by p a)) (first_in_rows test (n - (a + 1)) cols (down_by p (a + 1)))
+      ≡ option_or (first_in_row test cols (down_by p a)) (first_in_rows test (n - (a + 1)) cols (down_by p (a + 1)))
   rows_step n cols a p h =
       rows_some (n - a) cols (down_by p a) (omega (arith, h))
-      ∙ ap (λ k. or_else (first_in_row test cols (down_by p a)) (first_in_rows test k cols (down_by (down_by p a) 1)))
+      ∙ ap (λ k. option_or (first_in_row test cols (down_by p a)) (first_in_rows test k cols (down_by (down_by p a) 1)))
       (let e : n - a - 1 ≡ n - (a + 1) = omega arith in e)
-      ∙ ap (λ q. or_else (first_in_row test cols (down_by p a)) (first_in_rows test (n - (a + 1)) cols q))
+      ∙ ap (λ q. option_or (first_in_row test cols (down_by p a)) (first_in_rows test (n - (a + 1)) cols q))
       (down_more p a)
 
   -- a search along a row that has come to its end

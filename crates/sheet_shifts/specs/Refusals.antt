@@ -2,6 +2,7 @@
 use Rattle.std.specs.Prelude.{ℕ, zero, suc, ◌+◌, Bool, true, not, ◌&&◌, nat_lt, List, [], ◌∷◌, Option, None, Some, is_some, if◌then◌else◌}
 use Rattle.std.specs.FinMap.{entries, get}
 use Rattle.std.specs.Ordering.{is_gt}
+use Rattle.std.specs.Option.{option_or}
 use Rattle.grid_address.specs.Formats.{has_protection}
 use Rattle.grid_address.specs.Limits.{COLUMNS, ROWS}
 use Rattle.grid_address.specs.Place.{height_of, place_cmp, width_of, Extent, Place}
@@ -30,11 +31,6 @@ is_marked (Some s) = has_protection s.format.0
 abbrev pub is_marked_at : Cells → Place → Bool
 is_marked_at m c = is_marked (get m c)
 
--- the first of two, where there is one
-abbrev pub or_else : {X : Type 0} → Option X → Option X → Option X
-or_else (Some x) other = Some x
-or_else None other = other
-
 -- the first of so many cells of a row that passes a test, from one on
 unfoldable pub first_in_row : (Place → Bool) → ℕ → Place → Option Place
 first_in_row test zero p = None
@@ -44,7 +40,7 @@ first_in_row test (suc n) p = if test p then Some p else first_in_row test n (re
 unfoldable pub first_in_rows : (Place → Bool) → ℕ → ℕ → Place → Option Place
 first_in_rows test zero cols p = None
 first_in_rows test (suc n) cols p =
-    or_else (first_in_row test cols p) (first_in_rows test n cols (record p { row = p.row + 1 }))
+    option_or (first_in_row test cols p) (first_in_rows test n cols (record p { row = p.row + 1 }))
 
 -- the first protected cell of a span, in row order
 abbrev pub first_marked : Cells → Extent → Option Place
@@ -109,8 +105,8 @@ pushed_fault (Some c) = Some (faults.PushedOff c)
 -- protected; a filled cell would be pushed out of the sheet
 abbrev pub refusal : Choices → Cells → Shift → Option SheetFault
 refusal s m shift =
-    or_else (out_of_sheet shift)
-    (or_else (if s.protection then protected_fault (protected_in shift m) else None)
+    option_or (out_of_sheet shift)
+    (option_or (if s.protection then protected_fault (protected_in shift m) else None)
     (pushed_fault (pushed_in shift m)))
 
 -- lines that are inserted or deleted are so many that they lie in the sheet; a move may leave it

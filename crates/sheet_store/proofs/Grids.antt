@@ -1,11 +1,12 @@
 -- Every cell of the map lies in the sheet, and where the last used cell is.
-use Rattle.std.specs.Prelude.{ℕ, ◌≡◌, ◌≤◌, ◌&&◌, true, cond, max, refl, List, [], ◌∷◌, None, Some}
+use Rattle.std.specs.Prelude.{ℕ, ◌≡◌, ◌≤◌, ◌&&◌, cond, max, refl, List, [], ◌∷◌, None, Some}
 use Rattle.std.specs.FinMap.{entries, find, from_entries, get, get-entries, get-from_entries}
 use Rattle.std.specs.Ordering.{eq_by_cmp}
-use Rattle.std.proofs.Common.{sym, ◌∙◌, ap, arith, inl, inr, rules}
+use Rattle.std.proofs.Common.{sym, ◌∙◌, ap, arith, inl, inr}
 use Rattle.std.proofs.lemmas.Bool.{cases_Bool}
-use Rattle.grid_address.proofs.Places.{cells_total, place_tied, same_place_itself}
-use Rattle.grid_address.specs.Place.{is_within, place_cmp, whole, InSheet, Place}
+use Rattle.std.proofs.lemmas.Option.{none-some}
+use Rattle.grid_address.proofs.Places.{cells_total, in_whole, place_tied, same_place_itself}
+use Rattle.grid_address.specs.Place.{place_cmp, whole, InSheet, Place}
 use Rattle.cell_maps.specs.Filled.{filled}
 use Rattle.cell_maps.specs.declared.held.Held.{Held}
 use Rattle.sheet_store.proofs.Held.{tied}
@@ -23,9 +24,6 @@ found_later e es p s h = elim (cases_Bool (eq_by_cmp place_cmp p e.0)) [
   | inl t ↦ (e.1, ap (λ b. cond b (Some e.1) (find place_cmp p es)) t)
   | inr f ↦ (s, ap (λ b. cond b (Some e.1) (find place_cmp p es)) f ∙ h)
 ]
-
-in_whole : (p : Place) → InSheet p → is_within whole p ≡ true
-in_whole p h = search rules
 
 whole_among : (es : List (Place × CellState)) → ((p : Place) (s : CellState) → find place_cmp p es ≡ Some s → InSheet p)
     → picked holds_formula whole es ≡ formulas_among es
@@ -98,14 +96,8 @@ module _ (f : Place → ℕ) where
 last_same : (es fs : List (Place × CellState)) → ((p : Place) → find place_cmp p es ≡ find place_cmp p fs)
     → last_among None es ≡ last_among None fs
 last_same [] [] h = refl
-last_same [] (g ∷ fs) h = absurd (none_some g.1 (h g.0 ∙ first_found g fs))
-  where
-    none_some : (s : CellState) → None ≡ Some s → ⊥
-    none_some s h = absurd cc
-last_same (e ∷ es) [] h = absurd (some_none e.1 (sym (first_found e es) ∙ h e.0))
-  where
-    some_none : (s : CellState) → Some s ≡ None → ⊥
-    some_none s h = absurd cc
+last_same [] (g ∷ fs) h = absurd (none-some g.1 (h g.0 ∙ first_found g fs))
+last_same (e ∷ es) [] h = absurd (none-some e.1 (sym (h e.0) ∙ first_found e es))
 last_same (e ∷ es) (g ∷ fs) h =
     let back : (p : Place) → find place_cmp p (g ∷ fs) ≡ find place_cmp p (e ∷ es) = λ p. sym (h p) in
     let a = below (λ p. p.row) es fs e g h in

@@ -1,10 +1,9 @@
 -- What every cell of a store keeps stays so.
 use Rattle.std.specs.Prelude.{◌≡◌, nat_eq, not, Bool, true, false, cond, Option, None, Some, refl}
-use Rattle.std.specs.Ordering.{eq_by_cmp, is_eq}
-use Rattle.std.specs.declared.cmp.Ordering.{Ordering}
-use Rattle.std.specs.declared.cmp.Ordering.TheVariants.{Less, Equal, Greater}
+use Rattle.std.specs.Ordering.{eq_by_cmp}
 use Rattle.std.specs.FinMap.{get, insert, remove, empty, get-insert, get-remove, get-empty}
 use Rattle.std.proofs.Common.{sym, ◌∙◌, ap, subst}
+use Rattle.std.proofs.lemmas.Option.{none-some, same_Some}
 use Rattle.grid_address.specs.Place.{place_cmp, Place}
 use Rattle.formula_tree.specs.declared.value.Content.{Content}
 use Rattle.formula_tree.specs.declared.value.Content.TheVariants as content
@@ -15,31 +14,20 @@ use Rattle.sheet_store.specs.Grid.{blank_state, formatted, is_blank, is_formula,
 use Rattle.sheet_store.specs.Grid.{IsSound}
 use Rattle.sheet_store.specs.State.{CellState}
 use Rattle.grid_address.proofs.Places.{cells_exact, cells_total}
-
-equal_from : (o : Ordering) → is_eq o ≡ true → o ≡ Equal
-equal_from Less h = cc
-equal_from Equal h = refl
-equal_from Greater h = cc
+use Rattle.grid_address.proofs.Maps.{equal_of}
 
 -- cells of which neither comes before the other are one
 pub tied : (d c : Place) → eq_by_cmp place_cmp d c ≡ true → d ≡ c
-tied d c h = cells_exact d c (equal_from (place_cmp d c) h)
-
-none_some : {X : Type 0} (x : X) → None ≡ Some x → ⊥
-none_some x h = absurd cc
-
--- the same answer has the same thing in it
-pub same_some : {X : Type 0} (x y : X) → Some x ≡ Some y → x ≡ y
-same_some x y h = cc
+tied d c h = cells_exact d c (equal_of (place_cmp d c) h)
 
 -- all that an empty map holds is as it must be
 pub empty_held : AreHeld empty
-empty_held p s h = absurd (none_some s (sym (get-empty place_cmp p) ∙ h))
+empty_held p s h = absurd (none-some s (sym (get-empty place_cmp p) ∙ h))
 
 put_held : (b : Bool) (p c : Place) (s found : CellState) (old : Option CellState) → (b ≡ true → p ≡ c) → IsHeld c s
     → (old ≡ Some found → IsHeld p found) → cond b (Some s) old ≡ Some found → IsHeld p found
 put_held true p c s found old same here before h =
-    subst (λ x. IsHeld p x) (same_some s found h) (subst (λ q. IsHeld q s) (sym (same refl)) here)
+    subst (λ x. IsHeld p x) (same_Some s found h) (subst (λ q. IsHeld q s) (sym (same refl)) here)
 put_held false p c s found old same here before h = before h
 
 -- with a state put in that is as it must be, all that the map holds is so
@@ -49,7 +37,7 @@ inserted_held m c s here held p found h =
     (sym (get-insert cells_total m c s p) ∙ h)
 
 left_over : (b : Bool) (found : CellState) (old : Option CellState) → cond b None old ≡ Some found → old ≡ Some found
-left_over true found old h = absurd (none_some found h)
+left_over true found old h = absurd (none-some found h)
 left_over false found old h = h
 
 -- with a cell taken out, all that the map holds is as it must be

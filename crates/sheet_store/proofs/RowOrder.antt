@@ -5,15 +5,15 @@ use Rattle.std.specs.FinMap.{entries, entries_sorted, find, from_entries, get, g
 use Rattle.std.specs.List.{dedup, dedup_from, list_any, AllByRecursion, IsDistinct}
 use Rattle.std.specs.List.Sorted.{IsPermutation, IsSorted, IsStrictlySortedBy}
 use Rattle.std.specs.Map.{keys_of}
-use Rattle.std.specs.Ordering.{is_eq}
 use Rattle.std.specs.declared.cmp.Ordering.TheVariants.{Less}
 use Rattle.std.proofs.Common.{sym, ◌∙◌, ap, subst, inl, inr, arith}
-use Rattle.std.proofs.lemmas.Bool.{cases_Bool}
+use Rattle.std.proofs.lemmas.Bool.{cases_Bool, or_parts}
 use Rattle.std.proofs.lemmas.List.Kept.{IsStrictlySortedBy-dedup}
 use Rattle.std.proofs.lemmas.List.Sorted.{list_any-IsPermutation}
 use Rattle.std.proofs.lemmas.Map.Keys.{IsDistinct-cons, IsDistinct-IsPermutation}
 use Rattle.std.proofs.lemmas.Map.Lookups.{btree_set_from_contains}
-use Rattle.grid_address.proofs.Maps.{in_order}
+use Rattle.std.proofs.lemmas.Option.{none-some}
+use Rattle.grid_address.proofs.Maps.{find_none_below, in_order}
 use Rattle.grid_address.proofs.Places.{cells_exact, cells_total, place_tied, same_place_is, same_place_laws}
 use Rattle.grid_address.specs.Place.{is_within, place_cmp, same_place, Extent, Place}
 use Rattle.cell_maps.specs.Filled.{cell_in, cells_of, filled, item_in, with_item, AreOnce}
@@ -32,19 +32,10 @@ abbrev pub AreApart : List (Place × CellState) → Type 0
 AreApart [] = Unit {0}
 AreApart (e ∷ es) = (find place_cmp e.0 es ≡ None) × AreApart es
 
-no_some : (s : CellState) → Some s ≡ None → ⊥
-no_some s h = absurd cc
-
--- entries in order are apart
-ahead : (x : Place) (es : List (Place × CellState)) → AllByRecursion (λ y. place_cmp x y ≡ Less) (keys_of es)
-    → find place_cmp x es ≡ None
-ahead x [] h = refl
-ahead x (e ∷ es) h = ap (λ o. cond (is_eq o) (Some e.1) (find place_cmp x es)) h.0 ∙ ahead x es h.1
-
 ordered_apart : (es : List (Place × CellState)) → Ascends (keys_of es) → AreApart es
 unfolding IsStrictlySortedBy
 ordered_apart [] h = tt
-ordered_apart (e ∷ es) h = (ahead e.0 es h.0, ordered_apart es h.1)
+ordered_apart (e ∷ es) h = (find_none_below place_cmp e.0 es h.0, ordered_apart es h.1)
 
 -- those of held cells are, where each is held once
 pub filled_apart : (hs : List (Held CellState)) → AreOnce (cells_of hs) → AreApart (filled hs)
@@ -94,11 +85,7 @@ sorted_ascends xs ys d p s =
 
 others : (q : Place) (xs : List Place) → has same_place xs q ≡ false → AllByRecursion (λ y. same_place q y ≡ false) xs
 others q [] h = tt
-others q (x ∷ xs) h = let p = neither (same_place q x) (has same_place xs q) h in (p.0, others q xs p.1)
-  where
-    neither : (a b : Bool) → (a || b) ≡ false → (a ≡ false) × (b ≡ false)
-    neither true b k = absurd cc
-    neither false b k = (refl, k)
+others q (x ∷ xs) h = let p = or_parts (same_place q x) (has same_place xs q) h in (p.0, others q xs p.1)
 
 module _ (test : CellState → Bool) (span : Extent) where
   -- whether what a place has is picked
@@ -110,7 +97,7 @@ module _ (test : CellState → Bool) (span : Extent) where
       → has same_place (picked test span es) q ≡ false
   picked_missed q [] h = refl
   picked_missed q (e ∷ es) h = elim (cases_Bool (same_place q e.0)) [
-    | inl t ↦ absurd (no_some e.1 (sym (ap (λ b. cond b (Some e.1) (find place_cmp q es)) (place_tied q e.0 ∙ t)) ∙ h))
+    | inl t ↦ absurd (none-some e.1 (sym h ∙ ap (λ b. cond b (Some e.1) (find place_cmp q es)) (place_tied q e.0 ∙ t)))
     | inr f ↦
         with f (is_within span e.0 && test e.1)
         (picked_missed q es (sym (ap (λ b. cond b (Some e.1) (find place_cmp q es)) (place_tied q e.0 ∙ f)) ∙ h))

@@ -11,12 +11,13 @@ use Rattle.std.specs.Map.{keys_of}
 use Rattle.std.proofs.Common.{sym, ◌∙◌, ap, subst, inl, inr, append_assoc, arith, rules}
 use Rattle.std.proofs.lemmas.Bool.{cases_Bool}
 use Rattle.std.proofs.lemmas.Cmp.{tied_itself}
+use Rattle.std.proofs.lemmas.Option.{none-some, same_Some}
 use Rattle.grid_address.proofs.Places.{cells_total}
 use Rattle.grid_address.specs.Place.{is_within, place_cmp, Extent, InSheet, Place}
 use Rattle.sheet_store.specs.Grid.{picked}
 use Rattle.sheet_store.specs.inner.Scan.{entries_from, left_from, number_of, passed_at, places_left}
 use Rattle.sheet_store.specs.State.{CellState}
-use Rattle.sheet_store.proofs.Held.{same_some, tied}
+use Rattle.sheet_store.proofs.Held.{tied}
 
 module _ (test : CellState → Bool) (span : Extent) where
   -- what is filtered out beside the span doesn't matter
@@ -103,7 +104,7 @@ next_here c s [] h k = absurd cc
 next_here c s (x ∷ xs) h k = elim (cases_Bool (eq_by_cmp place_cmp c x.0)) [
   | inl t ↦
       let same : c ≡ x.0 = tied c x.0 t in
-      let value : x.1 ≡ s = same_some x.1 s (sym (ap (λ b. cond b (Some x.1) (find place_cmp c xs)) t) ∙ k) in
+      let value : x.1 ≡ s = same_Some x.1 s (sym (ap (λ b. cond b (Some x.1) (find place_cmp c xs)) t) ∙ k) in
       let le : (y : Place) → place_cmp x.0 y ≡ Less → is_le (place_cmp x.0 y) ≡ true = λ y l. ap is_le l in
       let lt : (y : Place) → place_cmp x.0 y ≡ Less → is_lt (place_cmp x.0 y) ≡ true = λ y l. ap is_lt l in
       ap (λ d. entries_from d (x ∷ xs)) same
@@ -130,15 +131,12 @@ pub none_here : (c : Place) (es : List (Place × CellState)) → find place_cmp 
 unfolding behind
 none_here c [] h = refl
 none_here c (x ∷ xs) h = elim (cases_Bool (eq_by_cmp place_cmp c x.0)) [
-  | inl t ↦ absurd (some_none x.1 (sym (ap (λ b. cond b (Some x.1) (find place_cmp c xs)) t) ∙ h))
+  | inl t ↦ absurd (none-some x.1 (sym h ∙ ap (λ b. cond b (Some x.1) (find place_cmp c xs)) t))
   | inr f ↦
       ap (λ b. cond b (x ∷ entries_from c xs) (entries_from c xs)) (le_is_lt (place_cmp c x.0) f)
       ∙ ap (λ l. cond (is_lt (place_cmp c x.0)) (x ∷ l) l)
       (none_here c xs (sym (ap (λ b. cond b (Some x.1) (find place_cmp c xs)) f) ∙ h))
 ]
-  where
-    some_none : (s : CellState) → Some s ≡ None → ⊥
-    some_none s h = absurd cc
 
 -- a span has its first cell
 pub first_within : (s : Extent) → s.first.col ≤ s.last.col → s.first.row ≤ s.last.row → is_within s s.first ≡ true

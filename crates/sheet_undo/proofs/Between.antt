@@ -1,5 +1,5 @@
 -- On the way from the cells of the next store to those of the kept one.
-use Rattle.std.specs.Prelude.{◌≡◌, ◌⊎◌, ◌++◌, cond, false, List, [], ◌∷◌, Option, None, Some, refl}
+use Rattle.std.specs.Prelude.{◌≡◌, ◌⊎◌, cond, false, List, [], ◌∷◌, Option, None, Some}
 use Rattle.std.specs.FinMap.{entries, find, get, get-entries, insert, remove}
 use Rattle.std.specs.List.{AllByRecursion}
 use Rattle.std.proofs.Common.{ap, sym, subst, ◌∙◌, inl, inr}
@@ -10,14 +10,8 @@ use Rattle.grid_address.specs.Place.{place_cmp, same_place, Place}
 use Rattle.sheet_shifts.proofs.Maps.{each, entries_apart, some_is_none}
 use Rattle.sheet_store.specs.Grid.{Cells}
 use Rattle.sheet_store.specs.State.{CellState}
-use Rattle.edit_log.specs.Changes.{all_changed, changed_at}
+use Rattle.edit_log.specs.Changes.{all_changed}
 use Rattle.sheet_undo.specs.inner.Changes.{AreTaken}
-
--- the last change is made last
-pub all_and : (m : Cells) (es : List (Place × Option CellState)) (e : Place × Option CellState)
-    → all_changed m (es ++ e ∷ []) ≡ changed_at (all_changed m es) e.0 e.1
-all_and m [] e = refl
-all_and m (x ∷ es) e = all_and (changed_at m x.0 x.1) es e
 
 -- an entry at another place isn't found
 find_other : (p : Place) (e : Place × CellState) (es : List (Place × CellState)) → same_place p e.0 ≡ false

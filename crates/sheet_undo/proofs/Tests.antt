@@ -14,9 +14,10 @@ use Rattle.grid_address.proofs.Places.{same_place_is, same_place_itself}
 use Rattle.grid_address.specs.Place.{Extent, InSheet, Place}
 use Rattle.lics_text.specs.Prefixes.{prefix_byte, prefix_of}
 use Rattle.lics_text.specs.declared.prefix.LabelPrefix.{LabelPrefix}
-use Rattle.lics_text.specs.declared.prefix.LabelPrefix.TheVariants.{Left, Right, Center, Repeat, Unprinted}
+use Rattle.lics_text.proofs.Prefixes.{prefix_back}
 use Rattle.sheet_store.specs.State.{CellState}
 use Rattle.formula_tree.specs.Values.{same_value}
+use Rattle.formula_tree.proofs.Values.{same_value_is}
 use Rattle.sheet_undo.specs.inner.Same.{entry, named, same_content, same_entry, same_name, same_state, IsWritten}
 use Rattle.wk1_formula.proofs.Again.{code_read}
 use Rattle.wk1_formula.specs.Stack.{tree_in}
@@ -28,33 +29,6 @@ bytes_itself xs = (bytes_eq-Decides xs xs).1 refl
 nat_itself : (n : ℕ) → nat_eq n n ≡ true
 nat_itself n = (Decides-eqb n n).1 refl
 
-value_is : (v w : Value) → same_value v w ≡ true → v ≡ w
-value_is value.Blank value.Blank h = refl
-value_is value.Blank (value.Num y) h = absurd (false≢true h)
-value_is value.Blank (value.Str y) h = absurd (false≢true h)
-value_is value.Blank value.Err h = absurd (false≢true h)
-value_is value.Blank value.Na h = absurd (false≢true h)
-value_is (value.Num x) value.Blank h = absurd (false≢true h)
-value_is (value.Num x) (value.Num y) h = ap value.Num ((Decides-int_eq x y).0 h)
-value_is (value.Num x) (value.Str y) h = absurd (false≢true h)
-value_is (value.Num x) value.Err h = absurd (false≢true h)
-value_is (value.Num x) value.Na h = absurd (false≢true h)
-value_is (value.Str x) value.Blank h = absurd (false≢true h)
-value_is (value.Str x) (value.Num y) h = absurd (false≢true h)
-value_is (value.Str x) (value.Str y) h = ap value.Str ((bytes_eq-Decides x y).0 h)
-value_is (value.Str x) value.Err h = absurd (false≢true h)
-value_is (value.Str x) value.Na h = absurd (false≢true h)
-value_is value.Err value.Blank h = absurd (false≢true h)
-value_is value.Err (value.Num y) h = absurd (false≢true h)
-value_is value.Err (value.Str y) h = absurd (false≢true h)
-value_is value.Err value.Err h = refl
-value_is value.Err value.Na h = absurd (false≢true h)
-value_is value.Na value.Blank h = absurd (false≢true h)
-value_is value.Na (value.Num y) h = absurd (false≢true h)
-value_is value.Na (value.Str y) h = absurd (false≢true h)
-value_is value.Na value.Err h = absurd (false≢true h)
-value_is value.Na value.Na h = refl
-
 value_itself : (v : Value) → same_value v v ≡ true
 value_itself value.Blank = refl
 value_itself (value.Num x) = (Decides-int_eq x x).1 refl
@@ -62,16 +36,8 @@ value_itself (value.Str s) = bytes_itself s
 value_itself value.Err = refl
 value_itself value.Na = refl
 
-prefix_read : (p : LabelPrefix) → prefix_of (prefix_byte p) ≡ Some p
-unfolding prefix_of
-prefix_read Left = refl
-prefix_read Right = refl
-prefix_read Center = refl
-prefix_read Repeat = refl
-prefix_read Unprinted = refl
-
 prefix_is : (p q : LabelPrefix) → prefix_byte p ≡ prefix_byte q → p ≡ q
-prefix_is p q e = let both : Some p ≡ Some q = sym (prefix_read p) ∙ ap prefix_of e ∙ prefix_read q in cc
+prefix_is p q e = let both : Some p ≡ Some q = sym (prefix_back p) ∙ ap prefix_of e ∙ prefix_back q in cc
 
 label_is : (p q : LabelPrefix) (s t : List ℕ) → p ≡ q → s ≡ t → content.Label p s ≡ content.Label q t
 label_is p q s t e f = λ i. content.Label (e i) (f i)
@@ -113,7 +79,7 @@ state_is at s t inside v w h =
     let both = and_parts _ _ h in
     let rest = and_parts _ _ both.1 in
     let content = content_is at s.content t.content inside v w both.0 in
-    let value = value_is s.value t.value rest.0 in
+    let value = same_value_is s.value t.value rest.0 in
     let format = (Decides-eqb s.format.0 t.format.0).0 rest.1 in
     λ i. record { content = content i; value = value i; format = record { 0 = format i } }
 

@@ -3,9 +3,9 @@ use Rattle.std.specs.Prelude.{ℕ, ◌+◌, ◌==◌, ◌&&◌, nat_lt, Bool, fa
 use Rattle.lics_text.specs.Ascii as ascii
 use Rattle.lics_text.specs.Limits.{MAX_LEN}
 
--- a byte below 32 becomes a blank
-abbrev pub shown_byte : ℕ → ℕ
-shown_byte b = if nat_lt b ascii.space then ascii.space else b
+-- a byte as a text takes it: one below 32 becomes a blank
+abbrev pub text_byte : ℕ → ℕ
+text_byte b = if nat_lt b ascii.space then ascii.space else b
 
 -- whether bytes begin with the end of a line
 abbrev pub starts_with_lf : List ℕ → Bool
@@ -32,7 +32,7 @@ pub record Piece : Type 0 where
 
 -- what was read: the bytes as they are shown, and how many were passed
 abbrev pub piece : List ℕ → ℕ → Piece
-piece bytes passed = record { text = map shown_byte bytes; passed = passed }
+piece bytes passed = record { text = map text_byte bytes; passed = passed }
 
 -- the next bytes, fewer at the end
 abbrev pub next_bytes : ℕ → List ℕ → Piece

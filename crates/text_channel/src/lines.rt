@@ -1,5 +1,5 @@
 ghost use Rattle.std.specs.Prelude.{◌≡◌, ◌≤◌, ◌+◌, length, min, map, take, IfOk};
-ghost use Rattle.text_channel.specs.Lines.{ending_of, line_length, next_bytes, next_line, piece, shown_byte};
+ghost use Rattle.text_channel.specs.Lines.{ending_of, line_length, next_bytes, next_line, piece, text_byte};
 
 use lics_text::{Line, MAX_LEN, Memory, Text};
 use std::alloc::Global;
@@ -73,8 +73,8 @@ pub(crate) fn next_line(left: &[u8]) -> Taken
 }
 
 // A byte below 32 becomes a blank.
-fn shown_byte(byte: u8) -> u8
-    ensures { result ≡ shown_byte byte }
+fn text_byte(byte: u8) -> u8
+    ensures { result ≡ text_byte byte }
 {
     if byte < b' ' { b' ' } else { byte }
 }
@@ -82,11 +82,11 @@ fn shown_byte(byte: u8) -> u8
 // The bytes, of which those below 32 become blanks.
 fn shown_line(bytes: &[u8]) -> Line
     requires { length bytes.now ≤ MAX_LEN }
-    ensures { result ≡ map shown_byte bytes.now }
+    ensures { result ≡ map text_byte bytes.now }
 {
     let mut line = Line::new();
     for at in 0..bytes.len() {
-        line.put_all(&[shown_byte(bytes[at])]);
+        line.put_all(&[text_byte(bytes[at])]);
     }
     line
 }
@@ -95,7 +95,7 @@ fn shown_line(bytes: &[u8]) -> Line
 #[tactic(auto, using(crate::proofs::Shown::is_shown_text))]
 pub(crate) fn shown_text(alloc: Global, bytes: &[u8]) -> Result<Text, Memory>
     requires { length bytes.now ≤ MAX_LEN }
-    ensures { IfOk result (λ text. text ≡ map shown_byte bytes.now) }
+    ensures { IfOk result (λ text. text ≡ map text_byte bytes.now) }
 {
     let line = shown_line(bytes);
     Text::copy_of(alloc, line.bytes())

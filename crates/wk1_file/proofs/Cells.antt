@@ -7,7 +7,6 @@ use Rattle.std.specs.Int.{from_le_bytes, to_le_bytes, w16, w64}
 use Rattle.std.specs.Prelude.{◌==◌, ◌||◌, nat_lt, ℤ, pos, negsuc, nat_abs, cond, Some, Ok}
 use Rattle.std.proofs.lemmas.Bool.{and_parts, cases_Bool, or_cases}
 use Rattle.std.proofs.lemmas.Bool.Decides.{nat_tests}
-use Rattle.std.proofs.lemmas.Int.{ints}
 use Rattle.std.proofs.lemmas.List.{append-nil, take_all}
 use Rattle.std.proofs.lemmas.Nat.{from_le_bytes-to_le_bytes_2, from_le_bytes-to_le_bytes_8}
 use Rattle.fixed_value.specs.Doubles.{double_of}
@@ -40,15 +39,14 @@ use Rattle.wk1_records.specs.declared.kind.RecordKind.TheVariants as kind
 use Rattle.wk1_file.proofs.Heads.{head_cell, headed}
 use Rattle.lics_text.specs.Prefixes.{prefix_byte}
 use Rattle.lics_text.specs.declared.prefix.LabelPrefix.{LabelPrefix}
-use Rattle.wk1_file.proofs.Prefixes.{prefix_back, prefix_some}
+use Rattle.lics_text.proofs.Prefixes.{prefix_back}
+use Rattle.fixed_value.proofs.Written.{plus_size}
+use Rattle.wk1_file.proofs.Prefixes.{prefix_some}
 
 abbrev cell : Content → Value → Format → CellState
 cell c v f = record { content = c; value = v; format = f }
 
 -- ---- numbers
-
-no_minus : (n : ℕ) → int_lt (pos n) (pos 0) ≡ false
-no_minus n = grind (arith, ints)
 
 -- the number of two bytes of a whole number
 abbrev two_bytes : ℤ → ℕ
@@ -63,11 +61,11 @@ integer_back (pos n) e =
       | inl l ↦ grind (arith, nat_tests, l)
       | inr r ↦
           absurd (let y = (and_parts (int_lt (pos n) (pos 0)) (n == 32768000000) r).0 in
-          let z = sym (no_minus n) ∙ y in cc)
+          let z = sym (plus_size n) ∙ y in cc)
     ] in
     let less : nat_lt (n / 1000000) 32768 ≡ true =
     (let l : n / 1000000 < 32768 = omega (arith, few) in grind (arith, nat_tests, l)) in
-    rw (no_minus n) (omega (arith, few), rw less (ap pos (omega (arith, whole))))
+    rw (plus_size n) (omega (arith, few), rw less (ap pos (omega (arith, whole))))
 integer_back (negsuc n) e =
     let x =
     and_parts (suc n % 1000000 == 0)

@@ -1,9 +1,10 @@
 -- The head of a cell's record.
-use Rattle.std.proofs.Common.{◌≡◌, ℕ, ◌≤◌, Bool, true, false, ◌&&◌, List, ◌++◌, length, refl, ap, ◌∙◌, arith}
+use Rattle.std.proofs.Common.{◌≡◌, ℕ, ◌≤◌, true, false, ◌&&◌, List, ◌++◌, length, refl, ap, ◌∙◌, arith}
 use Rattle.std.specs.Int.{from_le_bytes, to_le_bytes, w16}
 use Rattle.std.specs.Prelude.{nat_lt, not, Ok}
 use Rattle.std.proofs.lemmas.Bool.Decides.{nat_tests}
 use Rattle.std.proofs.lemmas.Nat.{from_le_bytes-to_le_bytes_2}
+use Rattle.std.proofs.lemmas.Bool.{and_right}
 use Rattle.grid_address.specs.Place.{InSheet, Place}
 use Rattle.sheet_store.specs.State.{CellState}
 use Rattle.wk1_formula.proofs.Fronts.{no_less}
@@ -58,10 +59,6 @@ by_type n kind.Str body some = refl
 by_type n kind.HiddenColumns body some = refl
 by_type n kind.Other body some = absurd (some refl)
 
-and_false : (b : Bool) → (b && false) ≡ false
-and_false true = refl
-and_false false = refl
-
 -- the same of a body with a head
 pub headed : (n : ℕ) (p : Place) (s : CellState) (rest : List ℕ) (k : RecordKind) (e : Entry) → InSheet p
     → (k ≡ kind.Other → ⊥) → least_length k (head p s ++ rest) ≤ length (head p s ++ rest)
@@ -69,4 +66,5 @@ pub headed : (n : ℕ) (p : Place) (s : CellState) (rest : List ℕ) (k : Record
 headed n p s rest k e h some long says =
     let inside : is_inside (cell_of (head p s ++ rest)) ≡ true = ap is_inside (head_cell p s rest h) ∙ inside_is p h in
     by_type n k (head p s ++ rest) some
-    ∙ tested n (head p s ++ rest) k e long (ap (λ b. has_head k && not b) inside ∙ and_false (has_head k)) says
+    ∙ tested n (head p s ++ rest) k e long (ap (λ b. has_head k && not b) inside ∙ and_right (has_head k) false refl)
+    says

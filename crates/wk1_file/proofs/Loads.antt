@@ -1,11 +1,11 @@
 -- How a file is read, record by record.
 use Rattle.std.proofs.Common.{◌≡◌, ℕ, ◌≤◌, ◌+◌, true, cond, List, ◌++◌, length, drop, get_or, refl}
 use Rattle.std.proofs.Common.{ap, ◌∙◌, sym, subst, arith, length-append, length-drop}
-use Rattle.std.specs.Prelude.{fold, Some, None, Result, Ok, Err}
+use Rattle.std.specs.Prelude.{fold, Some, Result, Ok, Err}
 use Rattle.std.proofs.lemmas.List.{drop-drop, get_or-drop}
-use Rattle.grid_address.specs.Place.{Place}
 use Rattle.grid_address.proofs.Places.{get_inserted, same_place_itself}
 use Rattle.std.specs.FinMap.{get, insert, remove}
+use Rattle.std.proofs.lemmas.Option.{none-some, same_Some}
 use Rattle.formula_tree.specs.declared.value.Content.{Content}
 use Rattle.formula_tree.specs.declared.value.Content.TheVariants as content
 use Rattle.sheet_store.specs.Grid.{is_formula, is_kept}
@@ -33,24 +33,18 @@ kept_formula c h = of c.content h
     of (content.Label p t) h = absurd cc
     of (content.Formula f) h = refl
 
-no_place : (p : Place) → None ≡ Some p → ⊥
-no_place p h = absurd cc
-
-some_same : (p q : Place) → Some p ≡ Some q → p ≡ q
-some_same p q h = cc
-
 -- the cell that is kept in mind holds a formula after each record
 pub minded_on : (r : Progress) (e : Entry) → IsEntry e → IsMinded (with_entry r e)
-minded_on r entry.Nothing h = λ p none. absurd (no_place p none)
-minded_on r (entry.Automatic b) h = λ p none. absurd (no_place p none)
-minded_on r (entry.Order o) h = λ p none. absurd (no_place p none)
-minded_on r (entry.Window p f w) h = λ p none. absurd (no_place p none)
-minded_on r (entry.Width col w) h = λ p none. absurd (no_place p none)
-minded_on r (entry.Hidden bits) h = λ p none. absurd (no_place p none)
-minded_on r (entry.Name name span) h = λ p none. absurd (no_place p none)
-minded_on r (entry.State p s) h = λ p none. absurd (no_place p none)
+minded_on r entry.Nothing h = λ p none. absurd (none-some p none)
+minded_on r (entry.Automatic b) h = λ p none. absurd (none-some p none)
+minded_on r (entry.Order o) h = λ p none. absurd (none-some p none)
+minded_on r (entry.Window p f w) h = λ p none. absurd (none-some p none)
+minded_on r (entry.Width col w) h = λ p none. absurd (none-some p none)
+minded_on r (entry.Hidden bits) h = λ p none. absurd (none-some p none)
+minded_on r (entry.Name name span) h = λ p none. absurd (none-some p none)
+minded_on r (entry.State p s) h = λ p none. absurd (none-some p none)
 minded_on r (entry.Formula p s) h = λ q same.
-    let is : p ≡ q = some_same p q same in
+    let is : p ≡ q = same_Some p q same in
     let m = r.sheet.store.cells in
     let there : get (insert m p s) p ≡ Some s =
     get_inserted m p s p ∙ ap (λ b. cond b (Some s) (get m p)) (same_place_itself p) in (
@@ -59,10 +53,10 @@ minded_on r (entry.Formula p s) h = λ q same.
           ∙ there,
       h.1,
     )
-minded_on r (entry.Text p t) h = λ p none. absurd (no_place p none)
-minded_on r (entry.Protection b) h = λ p none. absurd (no_place p none)
-minded_on r (entry.Prefix b) h = λ p none. absurd (no_place p none)
-minded_on r (entry.Passes n) h = λ p none. absurd (no_place p none)
+minded_on r (entry.Text p t) h = λ p none. absurd (none-some p none)
+minded_on r (entry.Protection b) h = λ p none. absurd (none-some p none)
+minded_on r (entry.Prefix b) h = λ p none. absurd (none-some p none)
+minded_on r (entry.Passes n) h = λ p none. absurd (none-some p none)
 
 module _ (bytes : List ℕ) (at n : ℕ) (r : Progress) (kind : ℕ) (body : List ℕ) (ahead : Ahead bytes at n r)
     (front : IsFront (drop at bytes) kind body) where

@@ -18,7 +18,7 @@ use Rattle.wk1_records.specs.declared.entry.Entry.TheVariants as entry
 use Rattle.wk1_records.specs.declared.kind.RecordKind.TheVariants as kind
 use Rattle.wk1_file.proofs.Heads.{by_type, inside_is, tested}
 use Rattle.lics_text.specs.Prefixes.{prefix_byte}
-use Rattle.wk1_file.proofs.Prefixes.{prefix_back}
+use Rattle.lics_text.proofs.Prefixes.{prefix_back}
 
 on_255 : (b : Bool) → not (on_byte b 255 == 0) ≡ b
 on_255 true = refl

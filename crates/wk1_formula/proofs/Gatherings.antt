@@ -1,9 +1,11 @@
 -- What is kept of the arguments of a call.
-use Rattle.std.proofs.Common.{◌≡◌, ℕ, ◌+◌, ◌≤◌, ◌<◌, max, min, Bool, true, false, ◌&&◌, List, [], ◌∷◌, ◌++◌, length}
+use Rattle.std.proofs.Common.{◌≡◌, ℕ, ◌+◌, ◌≤◌, ◌<◌, max, min, true, ◌&&◌, List, [], ◌∷◌, ◌++◌, length}
 use Rattle.std.proofs.Common.{reverse, refl, ap, ◌∙◌, sym, subst, append_assoc, arith, inl, inr, length-append}
 use Rattle.std.specs.Option.{ForSome}
 use Rattle.std.specs.Prelude.{Option, Some, None, ◌⊎◌}
 use Rattle.std.proofs.lemmas.List.{reverse-append}
+use Rattle.std.proofs.lemmas.Option.{none-some, same_Some}
+use Rattle.std.proofs.Math.Bool.{and-true, and_assoc}
 use Rattle.formula_tree.specs.Shape.{all_sizes, count, depth, every, every_one, greatest_depth, is_fine, nodes_size}
 use Rattle.formula_tree.specs.Table.{call_size, counts_of, takes}
 use Rattle.formula_tree.specs.Tree.{Tree, call}
@@ -13,6 +15,7 @@ use Rattle.wk1_formula.specs.declared.item.Item.{Item}
 use Rattle.wk1_formula.specs.inner.Gathered.{IsGathered}
 use Rattle.wk1_formula.specs.inner.Items.{AreItems, IsItem}
 use Rattle.formula_tree.specs.declared.function.Function.{Function}
+use Rattle.formula_tree.proofs.Rows.{counted_list}
 
 depth_more : (ts : List Tree) (t : Tree)
     → greatest_depth (listed (ts ++ t ∷ [])) ≡ max (greatest_depth (listed ts)) (depth t)
@@ -23,20 +26,12 @@ sizes_more : (ts : List Tree) (t : Tree) → all_sizes (listed (ts ++ t ∷ []))
 sizes_more [] t = omega arith
 sizes_more (u ∷ us) t = omega (arith, sizes_more us t)
 
-and_step : (a b c : Bool) → (a && (b && c)) ≡ ((a && b) && c)
-and_step true b c = refl
-and_step false b c = refl
-
-and_last : (a : Bool) → (a && true) ≡ a
-and_last true = refl
-and_last false = refl
-
 fine_more : (ts : List Tree) (t : Tree)
     → every_one is_fine (listed (ts ++ t ∷ [])) ≡ (every_one is_fine (listed ts) && every is_fine t)
-fine_more [] t = and_last (every is_fine t)
+fine_more [] t = and-true (every is_fine t)
 fine_more (u ∷ us) t =
     ap (λ b. every is_fine u && b) (fine_more us t)
-    ∙ and_step (every is_fine u) (every_one is_fine (listed us)) (every is_fine t)
+    ∙ sym (and_assoc (every is_fine u) (every_one is_fine (listed us)) (every is_fine t))
 
 -- with one argument more, what is kept is that of one tree more
 pub gathered_more : (g new : Gathered) (i : Item) (ts : List Tree) (t : Tree) → new.depth ≡ max g.depth i.depth
@@ -51,10 +46,6 @@ gathered_more g new i ts t deep long there gone p q = record {
   gone = λ e. elim (gone e) [ inl h ↦ omega (arith, h, depth_more ts t) | inr h ↦ omega (arith, h, depth_more ts t) ];
 }
 
-count_listed : (ts : List Tree) → count (listed ts) ≡ length ts
-count_listed [] = refl
-count_listed (t ∷ ts) = omega (arith, count_listed ts)
-
 -- what is kept of a call's arguments makes what is kept of the call
 pub call_made : (f : Function) (g : Gathered) (ts : List Tree) (new : Item) → IsGathered g ts
     → takes (counts_of f) (length ts) ≡ true → new.depth ≡ min (g.depth + 1) 257
@@ -66,7 +57,7 @@ call_made f g ts new p taken deep long top edge there gone = record {
   size_is = omega (arith, long, p.size_is);
   top_is = top;
   edge_is = edge;
-  fine = rw (count_listed ts, taken, p.fine) refl;
+  fine = rw (counted_list ts, taken, p.fine) refl;
   there = there;
   gone = gone;
 }
@@ -132,23 +123,17 @@ waits_next is i g new ts w more =
           (more (reverse w.done) p.last w.gathered p.item);
     }
 
-some_is : {T : Type 0} (x y : T) → Some x ≡ Some y → x ≡ y
-some_is x y e = cc
-
 abbrev none_of : (T : Type 0) → Option T
 none_of T = None
 
-no_some : {T : Type 0} (x : T) → none_of T ≡ Some x → ⊥
-no_some x e = cc
-
 -- what is so of a thing is so of what an answer has that holds it
 pub for_some : {T : Type 0} (x : T) (P : T → Type 0) → P x → ForSome (Some x) P
-for_some x P p y e = subst P (some_is x y e) p
+for_some x P p y e = subst P (same_Some x y e) p
 
 -- an answer that holds nothing has no thing that could fail
 pub for_none : {T : Type 0} (P : T → Type 0) → ForSome (none_of T) P
-for_none P y e = absurd (no_some y e)
+for_none P y e = absurd (none-some y e)
 
 -- an answer that holds a thing isn't empty
 pub some_gone : {T : Type 0} (x : T) (P : Type 0) → Some x ≡ none_of T → P
-some_gone x P e = absurd (no_some x (sym e))
+some_gone x P e = absurd (none-some x (sym e))

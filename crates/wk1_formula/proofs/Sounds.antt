@@ -3,6 +3,7 @@ use Rattle.std.proofs.Common.{◌≡◌, ℕ, suc, ◌≤◌, ◌<◌, true, fal
 use Rattle.std.specs.Prelude.{◌==◌, nat_lt, Option, Some, None}
 use Rattle.std.proofs.lemmas.Bool.{cases_Bool}
 use Rattle.std.proofs.lemmas.Bool.Decides.{nat_tests}
+use Rattle.std.proofs.lemmas.Option.{same_Some}
 use Rattle.fixed_value.specs.declared.doubles.DoubleRead.{DoubleRead}
 use Rattle.fixed_value.specs.declared.doubles.DoubleRead.TheVariants as double
 use Rattle.grid_address.specs.Axes.{Reference}
@@ -37,14 +38,11 @@ none_more : (b : ℕ) (o : Option (List ℕ)) (t : List ℕ) → with_byte b o �
 none_more b None t e = absurd cc
 none_more b (Some u) t e = (u, refl, cc)
 
-some_is : {A : Type 0} {x y : A} → Some x ≡ Some y → x ≡ y
-some_is e = cc
-
 zero_behind : (bytes t : List ℕ) → before_zero bytes ≡ Some t → length t < length bytes
 zero_behind [] t e = absurd cc
 zero_behind (b ∷ bs) t e =
     elim (cases_Bool (b == 0)) [
-      | inl z ↦ (let x : [] ≡ t = some_is (rw z at e) in omega (arith, ap length x))
+      | inl z ↦ (let x : [] ≡ t = same_Some _ _ (rw z at e) in omega (arith, ap length x))
       | inr z ↦
           (let x = none_more b (before_zero bs) t (rw z at e) in omega (arith, zero_behind bs x.0 x.1, ap length x.2))
     ]

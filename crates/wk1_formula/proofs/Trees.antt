@@ -8,9 +8,8 @@ use Rattle.std.proofs.lemmas.Bool.Decides.{nat_tests}
 use Rattle.std.proofs.lemmas.Grind.{flat_map-append}
 use Rattle.std.proofs.lemmas.List.{append-nil}
 use Rattle.formula_tree.specs.declared.ast.Expr.{Expr}
-use Rattle.formula_tree.specs.Tree.{Tree, num, str, cell, span, group, neg, not, binary, call, Trees, no_trees, trees}
-use Rattle.formula_tree.specs.Shape.{code_size, has_shape, every, every_one, is_bracketed, is_counted, is_fine}
-use Rattle.formula_tree.specs.Shape.{is_plain}
+use Rattle.formula_tree.specs.Tree.{Tree}
+use Rattle.formula_tree.specs.Shape.{code_size, has_shape, every, every_one, is_counted, is_fine}
 use Rattle.formula_tree.specs.Table.{counts_of, takes}
 use Rattle.formula_tree.specs.View.{listed, tree_of}
 use Rattle.grid_address.specs.Place.{Place}
@@ -21,43 +20,7 @@ use Rattle.formula_tree.specs.declared.function.Function.{Function}
 use Rattle.formula_tree.specs.declared.function.Function.TheVariants as function_named
 use Rattle.formula_tree.specs.declared.table.Counts.{Counts}
 use Rattle.formula_tree.specs.declared.table.Counts.TheVariants.{Exactly, AtLeast}
-
-and_both : (a b : Bool) → a ≡ true → b ≡ true → (a && b) ≡ true
-and_both a b p q = rw (p, q) refl
-
-mutual
-  -- a test that follows from another
-  pub weaker : (p q : Tree → Bool) → ((t : Tree) → p t ≡ true → q t ≡ true) → (t : Tree) → every p t ≡ true
-      → every q t ≡ true
-  weaker p q h (num v) e = h (num v) e
-  weaker p q h (str v) e = h (str v) e
-  weaker p q h (cell v) e = h (cell v) e
-  weaker p q h (span v w) e = h (span v w) e
-  weaker p q h (group a) e =
-      (let x = and_parts (p (group a)) (every p a) e in and_both _ _ (h (group a) x.0) (weaker p q h a x.1))
-  weaker p q h (neg a) e =
-      (let x = and_parts (p (neg a)) (every p a) e in and_both _ _ (h (neg a) x.0) (weaker p q h a x.1))
-  weaker p q h (not a) e =
-      (let x = and_parts (p (not a)) (every p a) e in and_both _ _ (h (not a) x.0) (weaker p q h a x.1))
-  weaker p q h (binary op a b) e =
-      let x = and_parts (p (binary op a b)) (every p a && every p b) e in
-      let y = and_parts (every p a) (every p b) x.1 in
-      and_both _ _ (h (binary op a b) x.0) (and_both _ _ (weaker p q h a y.0) (weaker p q h b y.1))
-  weaker p q h (call f ts) e =
-      (let x = and_parts (p (call f ts)) (every_one p ts) e in
-      and_both _ _ (h (call f ts) x.0) (weaker_each p q h ts x.1))
-
-  -- where each node of some trees passes a test, it passes a weaker one
-  pub weaker_each : (p q : Tree → Bool) → ((t : Tree) → p t ≡ true → q t ≡ true) → (ts : Trees) → every_one p ts ≡ true
-      → every_one q ts ≡ true
-  weaker_each p q h no_trees e = refl
-  weaker_each p q h (trees t ts) e =
-      (let x = and_parts (every p t) (every_one p ts) e in and_both _ _ (weaker p q h t x.0) (weaker_each p q h ts x.1))
-
--- a node that is fine has a number of arguments that its function takes
-pub fine_counted : (t : Tree) → is_fine t ≡ true → is_counted t ≡ true
-fine_counted t e =
-    (and_parts (is_counted t) (is_plain t) (and_parts (is_bracketed t) (is_counted t && is_plain t) e).1).0
+use Rattle.formula_tree.proofs.Nodes.{fine_counted, weaker}
 
 -- the nodes of all arguments pass a test where those of each one do
 pub every_listed : (test : Tree → Bool) (es : List Expr)

@@ -1,16 +1,15 @@
 -- A write that comes alone.
 use Rattle.std.specs.Prelude.{◌≡◌, ◌||◌, Bool, true, false, refl, slice_get, length, List, [], ◌∷◌, Some}
 use Rattle.std.proofs.Common.{ap, arith}
+use Rattle.std.proofs.lemmas.Option.{none-some, same_Some}
 use Rattle.grid_address.specs.Place.{same_place, Place}
 use Rattle.cell_maps.specs.Sets.{has}
-use Rattle.sheet_edits.proofs.Overlaid.{none_not_some}
-use Rattle.sheet_edits.proofs.Sound.{the_same}
 use Rattle.sheet_store.specs.declared.writes.Write.{Write}
 
 -- a list of one write
 pub alone : (ws : List Write) (w : Write) → slice_get ws 0 ≡ Some w → length ws ≡ 1 → ws ≡ w ∷ []
-alone [] w e n = absurd (none_not_some w e)
-alone (x ∷ []) w e n = ap (λ y. y ∷ []) (the_same x w e)
+alone [] w e n = absurd (none-some w e)
+alone (x ∷ []) w e n = ap (λ y. y ∷ []) (same_Some x w e)
 alone (x ∷ y ∷ ws) w e n = absurd (omega (arith, n))
 
 -- the cell is the only one that is written

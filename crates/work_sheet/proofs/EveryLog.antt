@@ -11,6 +11,7 @@ use Rattle.depend_graph.specs.Network.{ReachesCell}
 use Rattle.depend_graph.specs.Network.ReachesCell.{direct, through}
 use Rattle.natural_order.proofs.Cut.{filter_in, filter_passes, has-filter}
 use Rattle.cell_maps.specs.Sets.{has}
+use Rattle.cell_maps.proofs.Members.{any_at, some_at}
 use Rattle.natural_order.specs.Walk.{Reaches}
 use Rattle.natural_order.specs.Walk.Reaches.{one, more}
 use Rattle.recalculation.proofs.First.{reads_formula, stays_formula}
@@ -27,24 +28,16 @@ use Rattle.sheet_store.specs.Grid.{formulas, Grid}
 use Rattle.sheet_store.specs.declared.order.Order.{Order}
 use Rattle.sheet_store.specs.declared.order.Order.TheVariants as orders
 use Rattle.recalculation.proofs.Filled.{has_cells}
-use Rattle.work_sheet.proofs.Leading.{any_at, leading, some_at, Leads}
+use Rattle.work_sheet.proofs.Leading.{leading, Leads}
 use Rattle.work_sheet.proofs.Leading.Leads.{here, there}
 use Rattle.formula_parts.specs.Outlook.{cells_of}
+use Rattle.recalculation.proofs.Fresh.{reaching_is_formula}
 use Rattle.work_sheet.specs.Doing.{all_dirty, evaluated_once, passed, swept, wrote, Happened}
 use Rattle.work_sheet.specs.Work.{dirty_within, HasWorked, Work, Works}
 
 -- a test tells it
 abbrev IsTold : (Place → Type 0) → Type 0
 IsTold P = (t : Place → Bool) × ((c : Place) → (t c ≡ true) ↔ P c)
-
--- a cell of a list that passes
-some_cell : (p : Place → Bool) (xs : List Place) → list_any p xs ≡ true
-    → (d : Place) × (has same_place xs d ≡ true) × (p d ≡ true)
-some_cell p xs h = some_at same_place same_place_is same_place_itself p xs h
-
-any_cell : (p : Place → Bool) (xs : List Place) (d : Place) → has same_place xs d ≡ true → p d ≡ true
-    → list_any p xs ≡ true
-any_cell p xs d m h = any_at same_place same_place_is same_place_itself p xs d m h
 
 -- a list with the same cells, each once
 each_once : (xs : List Place) → (ys : List Place) × ((c : Place) → has same_place ys c ≡ has same_place xs c)
@@ -104,7 +97,9 @@ module _ (g : Grid) where
     read_in [] h = absurd (false≢true h)
     read_in (s ∷ ss) h =
         elim (or_cases (list_any cells (cells_of s)) (list_any (λ x. list_any cells (cells_of x)) ss) h) [
-          | inl k ↦ let x = some_cell cells (cells_of s) k in (x.0, x.2, or_left _ _ (sym (has_cells s x.0) ∙ x.1))
+          | inl k ↦
+              let x = some_at same_place same_place_is same_place_itself cells (cells_of s) k in
+              (x.0, x.2, or_left _ _ (sym (has_cells s x.0) ∙ x.1))
           | inr k ↦ let r = read_in ss k in (r.0, r.1, or_right _ _ r.2)
         ]
 
@@ -112,7 +107,8 @@ module _ (g : Grid) where
         → list_any (λ s. list_any cells (cells_of s)) ss ≡ true
     in_read [] w t h = absurd (false≢true h)
     in_read (s ∷ ss) w t h = elim (or_cases (is_within s w) (hold ss w) h) [
-      | inl k ↦ or_left _ _ (any_cell cells (cells_of s) w (has_cells s w ∙ k) t)
+      | inl k ↦
+          or_left _ _ (any_at same_place same_place_is same_place_itself cells (cells_of s) w (has_cells s w ∙ k) t)
       | inr k ↦ or_right _ _ (in_read ss w t k)
     ]
 
@@ -171,11 +167,6 @@ module _ (g : Grid) where
               r.2,
             )
 
-  -- what reaches a cell is a formula
-  reached_formula : {c d : Place} → Reaches same_place (pre g) c d → is_formula_at g c ≡ true
-  reached_formula {c} (one {d = d} m) = reads_formula g c d m
-  reached_formula {c} (more {e = e} m r) = reads_formula g c e m
-
   leads_reach : (d : Place) {c : Place} → Leads same_place (pre g) (λ x. has same_place (pre g x) d) c
       → Reaches same_place (pre g) c d
   leads_reach d (here m) = one m
@@ -210,7 +201,7 @@ module _ (g : Grid) where
 
     first_formula : (c : Place) → stays_first c ≡ true → is_formula_at g c ≡ true
     first_formula c h = elim (or_cases (volatile_of (formula_at g c)) (circular c) h)
-        [ inl v ↦ volatile_formula (formula_at g c) v | inr k ↦ reached_formula ((is c).0 k) ]
+        [ inl v ↦ volatile_formula (formula_at g c) v | inr k ↦ reaching_is_formula g ((is c).0 k) ]
 
     leads_stay : {c : Place} → Leads same_place (pre g) stays_first c → StaysDirty g c
     leads_stay (here {c = c} b) = elim (or_cases (volatile_of (formula_at g c)) (circular c) b)

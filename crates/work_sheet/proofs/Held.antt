@@ -8,7 +8,6 @@ use Rattle.formula_tree.specs.Tree.{Tree}
 use Rattle.depend_graph.specs.Network.{Network}
 use Rattle.cell_maps.specs.Sets.{has}
 use Rattle.natural_order.specs.Walk.{Reaches}
-use Rattle.natural_order.specs.Walk.Reaches.{more, one}
 use Rattle.sheet_store.specs.Grid.{put_state, Cells, Grid}
 use Rattle.sheet_store.specs.declared.order.Order.{Order}
 use Rattle.sheet_store.specs.declared.order.Order.TheVariants as orders
@@ -21,7 +20,8 @@ use Rattle.recalculation.proofs.Members.{pre_along}
 use Rattle.recalculation.specs.Context.{formula_at, formula_of, outlook_at, value_of, Context}
 use Rattle.recalculation.specs.Passes.{evaluated, IsDirtyAfter, IsSound, IsSpread, Meaning, SameContents}
 use Rattle.recalculation.specs.inner.Meanings.{IsMeaning}
-use Rattle.recalculation.specs.Reading.{is_formula_at, node_of, pre, Matches}
+use Rattle.recalculation.specs.Reading.{is_formula_at, node_of, Matches}
+use Rattle.recalculation.proofs.Fresh.{reaching_is_formula}
 use Rattle.sheet_edits.proofs.Beside.{beside}
 use Rattle.sheet_edits.proofs.Reaching.{reaching_formula}
 use Rattle.sheet_edits.specs.Edits.{just, AreDirtied}
@@ -191,10 +191,6 @@ module _ (mean : Meaning) (meaning : IsMeaning mean) where
     not_formula : (c : Place) → is_formula_at g c ≡ true → ⊥
     not_formula c h = true≢false (sym h ∙ ap is_some (no_formula c))
 
-    starts : {c d : Place} → Reaches same_place (pre g) c d → is_formula_at g c ≡ true
-    starts {c} {d} (one m) = reads_formula g c d m
-    starts {c} (more {e = e} m r) = reads_formula g c e m
-
     nothing_whole : (order : Order) (dirty : List Place) → AllDirtyIn order g dirty
     nothing_whole orders.Natural dirty = tt
     nothing_whole orders.Columnwise dirty = λ c f. absurd (not_formula c f)
@@ -210,7 +206,7 @@ module _ (mean : Meaning) (meaning : IsMeaning mean) where
         only = λ c t. absurd (true≢false (sym t ∙ ap (λ ks. has same_place ks c) clean));
         up = λ c d m t. absurd (not_formula c (reads_formula g c d m));
         calm = λ c t h k. absurd (not_formula c (ap is_some h));
-        acyclic = λ c k r. not_formula c (starts r);
+        acyclic = λ c k r. not_formula c (reaching_is_formula g r);
         right = λ c t h k. absurd (not_formula c (ap is_some h));
       };
       whole = nothing_whole order dirty;

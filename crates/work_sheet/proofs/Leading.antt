@@ -5,6 +5,7 @@ use Rattle.std.specs.List.{filter, list_any}
 use Rattle.std.proofs.Common.{sym, ap, ◌∙◌, inl, inr, arith}
 use Rattle.std.proofs.lemmas.Bool.{cases_eq, false≢true, or_cases, or_left, or_right, true≢false}
 use Rattle.cell_maps.specs.Sets.{has}
+use Rattle.cell_maps.proofs.Members.{any_at, some_at}
 
 module _ {K : Type 0} where
   -- a wider test passes as many or more
@@ -55,22 +56,6 @@ module _ {K : Type 0} (eq : K → K → Bool) (same : (x y : K) → eq x y ≡ t
       by false false i j w l rest k = elim (or_cases (eq c x) (has eq xs c) m)
           [ inl d ↦ absurd (true≢false (sym t ∙ ap q (same c x d) ∙ j)) | inr n ↦ rest k n ]
 
-  -- an item of a list that passes
-  pub any_at : (p : K → Bool) (xs : List K) (d : K) → has eq xs d ≡ true → p d ≡ true → list_any p xs ≡ true
-  any_at p [] d m h = absurd (false≢true m)
-  any_at p (x ∷ xs) d m h = elim (or_cases (eq d x) (has eq xs d) m) [
-    | inl e ↦ or_left _ _ (ap p (sym (same d x e)) ∙ h)
-    | inr k ↦ or_right _ _ (any_at p xs d k h)
-  ]
-
-  -- where an item of a list passes, there is one that the list has and that passes
-  pub some_at : (p : K → Bool) (xs : List K) → list_any p xs ≡ true → (d : K) × (has eq xs d ≡ true) × (p d ≡ true)
-  some_at p [] h = absurd (false≢true h)
-  some_at p (x ∷ xs) h = elim (or_cases (p x) (list_any p xs) h) [
-    | inl e ↦ (x, or_left _ _ (itself x), e)
-    | inr k ↦ let r = some_at p xs k in (r.0, or_right _ _ r.1, r.2)
-  ]
-
   module _ (pre : K → List K) (base : K → Bool) where
     -- what lies on the base, or reads what passes
     abbrev spread : (K → Bool) → K → Bool
@@ -82,14 +67,16 @@ module _ {K : Type 0} (eq : K → K → Bool) (same : (x y : K) → eq x y ≡ t
       within : (s : K → Bool) (c : K) → spread s c ≡ true → has eq all c ≡ true
       within s c h = elim (or_cases (base c) (list_any s (pre c)) h) [
         | inl b ↦ based c b
-        | inr r ↦ let x = some_at s (pre c) r in reading c x.0 x.1
+        | inr r ↦ let x = some_at eq same itself s (pre c) r in reading c x.0 x.1
       ]
 
       -- a wider test spreads wider
       wider : (s t : K → Bool) → ((c : K) → s c ≡ true → t c ≡ true) → (c : K) → spread s c ≡ true → spread t c ≡ true
       wider s t h c k = elim (or_cases (base c) (list_any s (pre c)) k) [
         | inl b ↦ or_left _ _ b
-        | inr r ↦ let x = some_at s (pre c) r in or_right _ _ (any_at t (pre c) x.0 x.1 (h x.0 x.2))
+        | inr r ↦
+            let x = some_at eq same itself s (pre c) r in
+            or_right _ _ (any_at eq same itself t (pre c) x.0 x.1 (h x.0 x.2))
       ]
 
       -- what leads to the base is all that a spread passes
@@ -97,7 +84,7 @@ module _ {K : Type 0} (eq : K → K → Bool) (same : (x y : K) → eq x y ≡ t
           → Leads eq pre base c
       sound_on s h c k = elim (or_cases (base c) (list_any s (pre c)) k) [
         | inl b ↦ here b
-        | inr r ↦ let x = some_at s (pre c) r in there x.1 (h x.0 x.2)
+        | inr r ↦ let x = some_at eq same itself s (pre c) r in there x.1 (h x.0 x.2)
       ]
 
       -- from a test that its spread passes, spread until nothing more passes, which comes after as many turns as there
@@ -117,7 +104,7 @@ module _ {K : Type 0} (eq : K → K → Bool) (same : (x y : K) → eq x y ≡ t
           → t c ≡ true
       complete t closed (here {c = c} b) = closed c (or_left _ _ b)
       complete t closed (there {c = c} {e = e} m l) =
-          closed c (or_right _ _ (any_at t (pre c) e m (complete t closed l)))
+          closed c (or_right _ _ (any_at eq same itself t (pre c) e m (complete t closed l)))
 
       -- a test of what leads to the base
       pub leading : (t : K → Bool) × ((c : K) → (t c ≡ true) ↔ Leads eq pre base c)

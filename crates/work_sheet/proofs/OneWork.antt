@@ -3,11 +3,11 @@ use Rattle.std.proofs.Common.{◌≡◌, ℕ, ◌+◌, ◌-◌, ◌*◌, Bool, t
 use Rattle.std.proofs.Common.{subst, inl, inr}
 use Rattle.std.specs.List.{filter, IsDistinct}
 use Rattle.std.proofs.lemmas.Map.Made.{length-from_same_keys}
+use Rattle.list_lemmas.proofs.Booleans.{same_from_both}
 use Rattle.grid_address.proofs.Places.{same_place_laws}
 use Rattle.grid_address.specs.Place.{same_place, Extent, Place}
 use Rattle.cell_maps.specs.Sets.{has}
 use Rattle.recalculation.specs.Passes.{raised_by, IsDirtyAfter}
-use Rattle.sheet_edits.proofs.Listed.{both}
 use Rattle.sheet_edits.specs.Edits.{AreDirtied, IsDirtied}
 use Rattle.sheet_edits.specs.inner.Undoing.{evaluations}
 use Rattle.sheet_store.specs.Grid.{formulas_within, Grid}
@@ -16,18 +16,13 @@ use Rattle.sheet_store.specs.declared.order.Order.TheVariants as orders
 use Rattle.work_sheet.specs.Doing.{all_dirty, evaluated_once, evaluation_if, passed, swept, wrote, Happened}
 use Rattle.work_sheet.specs.Work.{dirty_within, HasAllDirty, HasMarked, HasPassed, HasWorked, IsSameWork, Work, Works}
 
--- distinct lists of the same cells are as long
-as_long : (xs ys : List Place) → IsDistinct same_place xs → IsDistinct same_place ys
-    → ((c : Place) → has same_place xs c ≡ has same_place ys c) → length xs ≡ length ys
-as_long xs ys a b h = length-from_same_keys same_place_laws xs ys a b h
-
 module _ (g : Grid) (old before marked : Place → Bool) (same : (c : Place) → old c ≡ before c) where
   dirtied_too : (c : Place) → IsDirtied g old marked c → IsDirtied g before marked c
   dirtied_too c d = record { formula = d.formula; why = elim d.why [ inl o ↦ inl (sym (same c) ∙ o) | inr w ↦ inr w ] }
 
 dirtied_same : (g : Grid) (old before marked new now : Place → Bool) → ((c : Place) → old c ≡ before c)
     → AreDirtied g old marked new → AreDirtied g before marked now → (c : Place) → new c ≡ now c
-dirtied_same g old before marked new now same p q c = both (new c) (now c)
+dirtied_same g old before marked new now same p q c = same_from_both (new c) (now c)
     (λ t. (q c).1 (dirtied_too g old before marked same c ((p c).0 t)))
     (λ t. (p c).1 (dirtied_too g before old marked (λ x. sym (same x)) c ((q c).0 t)))
 
@@ -39,14 +34,14 @@ one_mark cells g w v w' v' same p q =
     (has same_place v'.dirty) same.dirty p.dirty q.dirty in
     record {
       dirty = dirty;
-      long = as_long w'.dirty v'.dirty p.distinct q.distinct dirty;
+      long = length-from_same_keys same_place_laws w'.dirty v'.dirty p.distinct q.distinct dirty;
       count = p.count ∙ same.count ∙ sym q.count;
     }
 
 after_same : (o : Order) (g : Grid) (old before new now : Place → Bool) → ((c : Place) → old c ≡ before c)
     → IsDirtyAfter o g old new → IsDirtyAfter o g before now → (c : Place) → new c ≡ now c
 after_same orders.Natural g old before new now same p q c =
-    both (new c) (now c) (λ t. (q c).1 ((p c).0 t)) (λ t. (p c).1 ((q c).0 t))
+    same_from_both (new c) (now c) (λ t. (q c).1 ((p c).0 t)) (λ t. (p c).1 ((q c).0 t))
 after_same orders.Columnwise g old before new now same p q c = p c ∙ same c ∙ sym (q c)
 after_same orders.Rowwise g old before new now same p q c = p c ∙ same c ∙ sym (q c)
 
@@ -56,7 +51,8 @@ one_pass o n g w v w' v' same p q =
     let dirty : (d : Place) → has same_place w'.dirty d ≡ has same_place v'.dirty d =
     after_same o g (has same_place w.dirty) (has same_place v.dirty) (has same_place w'.dirty)
     (has same_place v'.dirty) same.dirty p.dirty q.dirty in
-    let long : length w'.dirty ≡ length v'.dirty = as_long w'.dirty v'.dirty p.distinct q.distinct dirty in
+    let long : length w'.dirty ≡ length v'.dirty =
+    length-from_same_keys same_place_laws w'.dirty v'.dirty p.distinct q.distinct dirty in
     record {
       dirty = dirty;
       long = long;
@@ -87,7 +83,7 @@ one_all g w v w' v' same p q =
     ∙ sym (q.dirty c) in
     record {
       dirty = dirty;
-      long = as_long w'.dirty v'.dirty p.distinct q.distinct dirty;
+      long = length-from_same_keys same_place_laws w'.dirty v'.dirty p.distinct q.distinct dirty;
       count = p.count ∙ same.count ∙ sym q.count;
     }
 

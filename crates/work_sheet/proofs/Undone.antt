@@ -2,11 +2,10 @@
 use Rattle.std.specs.Prelude.{◌≡◌, refl, List, [], ◌∷◌, None, Some, true}
 use Rattle.std.specs.List.{IsDistinct}
 use Rattle.std.proofs.Common.{ap, sym, ◌∙◌}
+use Rattle.std.proofs.lemmas.Option.{none-some, same_Some}
 use Rattle.cell_maps.specs.Sets.{has}
 use Rattle.grid_address.specs.Place.{same_place, Place}
 use Rattle.recalculation.specs.Reading.{is_formula_at}
-use Rattle.sheet_edits.proofs.Overlaid.{none_not_some}
-use Rattle.sheet_edits.proofs.Sound.{the_same}
 use Rattle.sheet_undo.specs.Histories.{latest}
 use Rattle.work_sheet.specs.Kept.{Undoes}
 use Rattle.work_sheet.specs.Seen.{of_worksheet, Sheet}
@@ -18,9 +17,9 @@ pub latest_undone : (kept : List Sheet) (s : Sheet) (a b : Worksheet) → Some s
     → ((x : Sheet) (rest : List Sheet) → kept ≡ x ∷ rest → b.grid ≡ x.grid → b.names ≡ x.names
     → b.history ≡ record { kept = rest; begun = None })
     → Undoes kept true a b
-latest_undone [] s a b e sheet dirty distinct history = absurd (none_not_some s (sym e))
+latest_undone [] s a b e sheet dirty distinct history = absurd (none-some s (sym e))
 latest_undone (x ∷ rest) s a b e sheet dirty distinct history =
-    let is : of_worksheet b ≡ x = sheet ∙ the_same s x e in (
+    let is : of_worksheet b ≡ x = sheet ∙ same_Some s x e in (
       refl,
       record {
         sheet = is;

@@ -1,12 +1,9 @@
 use Rattle.std.specs.Prelude.{suc, ◌+◌, cond, length}
-use Rattle.std.proofs.Common.{ap, arith, ◌∙◌, Result, Ok, Err, OnErr}
+use Rattle.std.proofs.Common.{ap, arith, ◌∙◌}
+use Rattle.list_lemmas.proofs.Results.{on_err_always}
 use Rattle.grid_address.specs.Place.{same_place}
 use Rattle.cell_maps.proofs.Above.{above_same, above_set, back}
 use Rattle.cell_maps.proofs.set.add.Goals as goal
-
-on_err_always : {A B : Type 0} (r : Result A B) {P : Type 0} → P → OnErr r P
-on_err_always (Ok _) p = tt
-on_err_always (Err _) p = p
 
 pub returns-in_err-make_room-clause-err_numbers : goal.returns-in_err-make_room-clause-err_numbers
 returns-in_err-make_room-clause-err_numbers c =

@@ -1,7 +1,7 @@
 use Rattle.std.specs.Prelude.{◌≡◌}
+use Rattle.std.proofs.lemmas.Result.{on_ok_weaker}
 use Rattle.commands_data.proofs.Entered.{always, entered_holds, entered_same, recalculated_same, settings_kept}
 use Rattle.formula_eval.specs.Mean.{mean}
-use Rattle.sheet_edits.proofs.Gathering.{on_ok}
 use Rattle.sheet_edits.specs.Edits.{just}
 use Rattle.work_sheet.proofs.Done.{did_both}
 use Rattle.work_sheet.specs.Doing.{recalculated, with_content}
@@ -11,7 +11,7 @@ use Rattle.commands_data.proofs.trying.enter_out.Goals as goal
 pub returns-in-Ok-clause-did : goal.returns-in-Ok-clause-did
 returns-in-Ok-clause-did c =
     let m = c.args.tally.now.count in
-    on_ok c.calc.result
+    on_ok_weaker c.calc.result
     (did_both (with_content c.args.cell c.args.content (of_worksheet c.args.sheet.now))
     (recalculated mean c.args.scene.now)
     c.args.sheet.now c.enter.new.self c.calc.new.self m m c.calc.new.tally.count (c.in-Ok.ensures.did m))

@@ -1,9 +1,9 @@
 use Rattle.std.specs.Prelude.{◌≡◌}
+use Rattle.std.proofs.lemmas.Result.{on_ok_weaker}
 use Rattle.commands_data.proofs.Entered.{always, recalculated_same, settings_kept, written_holds, written_same}
 use Rattle.formula_eval.specs.Mean.{mean}
 use Rattle.grid_address.specs.Place.{same_place}
 use Rattle.cell_maps.specs.Sets.{has}
-use Rattle.sheet_edits.proofs.Gathering.{on_ok}
 use Rattle.sheet_edits.specs.Spans.{written_cells}
 use Rattle.work_sheet.proofs.Done.{did_both}
 use Rattle.work_sheet.specs.Doing.{recalculated}
@@ -14,7 +14,7 @@ use Rattle.commands_data.proofs.trying.write_out.Goals as goal
 pub returns-in-Ok-clause-did : goal.returns-in-Ok-clause-did
 returns-in-Ok-clause-did c =
     let m = c.args.tally.now.count in
-    on_ok c.calc.result
+    on_ok_weaker c.calc.result
     (did_both (all_written c.args.writes.now (of_worksheet c.args.sheet.now)) (recalculated mean c.args.scene.now)
     c.args.sheet.now c.write.new.self c.calc.new.self m m c.calc.new.tally.count (c.in-Ok.ensures.did m))
     c.calc.ensures.did

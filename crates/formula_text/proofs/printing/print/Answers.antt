@@ -2,7 +2,7 @@ use Rattle.std.proofs.Common.{◌≡◌, ◌≤◌, ◌++◌, ◌&&◌, true, fa
 use Rattle.std.proofs.Common.{arith}
 use Rattle.std.proofs.lemmas.Bool.Decides.{nat_tests}
 use Rattle.std.proofs.lemmas.List.{take_all}
-use Rattle.std.proofs.lemmas.Bool.{and_parts}
+use Rattle.std.proofs.lemmas.Bool.{and_parts, false≢true}
 use Rattle.formula_tree.specs.Shape.{code_size, every, is_fine}
 use Rattle.formula_text.specs.Printed.{printed, text_of}
 use Rattle.formula_text.specs.Texts.{Spells}
@@ -64,7 +64,4 @@ returns-then-out-clause-again c = λ told.
     (spelled names cell c.are_keyed.ensures c.is_on_sheet.ensures tree fine c.expr.ensures.ranges short)))
 
 pub returns-else-out-clause-again : goal.returns-else-out-clause-again
-returns-else-out-clause-again c = λ told. absurd (no_true (sym c.if-out.false ∙ told))
-  where
-    no_true : false ≡ true → ⊥
-    no_true h = absurd cc
+returns-else-out-clause-again c = λ told. absurd (false≢true (sym c.if-out.false ∙ told))

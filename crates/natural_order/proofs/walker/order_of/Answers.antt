@@ -4,9 +4,10 @@ use Rattle.std.proofs.Common.{ap, sym, ◌+◌, ◌∙◌}
 use Rattle.std.proofs.Math.ListN.{drop_of_length-le}
 use Rattle.cell_maps.specs.Sets.{has}
 use Rattle.grid_address.specs.Place.{same_place, Place}
+use Rattle.cell_maps.proofs.Members.{has_get}
 use Rattle.natural_order.specs.Machine.{fuel, walked}
 use Rattle.natural_order.specs.Walk.{walk, Walked}
-use Rattle.natural_order.proofs.Machine.{has_get, walked_more}
+use Rattle.natural_order.proofs.Machine.{walked_more}
 use Rattle.natural_order.proofs.walker.order_of.Goals as goal
 
 pub walk-requires-clause-known : goal.walk-requires-clause-known

@@ -1,10 +1,12 @@
 use Rattle.std.specs.Prelude.{◌≡◌, length}
 use Rattle.std.proofs.Common.{sym, ◌∙◌, ap}
+use Rattle.std.proofs.lemmas.Map.Made.{length-from_same_keys}
 use Rattle.grid_address.specs.Place.{same_place}
+use Rattle.grid_address.proofs.Places.{same_place_laws}
 use Rattle.cell_maps.specs.Sets.{has}
 use Rattle.sheet_store.specs.Grid.{Grid}
 use Rattle.recalculation.proofs.Cut.{pass_is_cut}
-use Rattle.recalculation.proofs.First.{as_many, split_of}
+use Rattle.recalculation.proofs.First.{split_of}
 use Rattle.recalculation.specs.Context.{seen_context, Context}
 use Rattle.recalculation.specs.Passes.{pass, raised_by, Meaning}
 use Rattle.recalculation.specs.inner.Meanings.{IsMeaning}
@@ -34,7 +36,8 @@ returns-clause-values g c =
 pub returns-clause-count : goal.returns-clause-count
 returns-clause-count g c =
     let n : length c.as_slice.result.now ≡ length c.args.dirty.now.keys =
-    ap length c.as_slice.ensures.keys ∙ as_many c.in_ok-order.order.done.keys c.args.dirty.now.keys
+    ap length c.as_slice.ensures.keys
+    ∙ length-from_same_keys same_place_laws c.in_ok-order.order.done.keys c.args.dirty.now.keys
     c.in_ok-order.ensures.unique c.len-len.ensures.unique c.in_ok-order.ensures.same in
     c.in_ok-pass_over.ensures.count ∙ ap (λ k. raised_by k (g.E.Means.count c.args.tally.now)) n
 

@@ -1,11 +1,12 @@
 use Rattle.std.specs.Prelude.{take, Some}
 use Rattle.std.specs.FinMap.{get, insert}
 use Rattle.std.proofs.Common.{ap, subst, ◌∙◌}
+use Rattle.std.proofs.lemmas.Option.{same_Some}
 use Rattle.grid_address.specs.Place.{same_place}
 use Rattle.cell_maps.specs.Sets.{has}
 use Rattle.sheet_store.specs.Grid.{IsSound}
 use Rattle.sheet_edits.proofs.Listed.{given_more, is_among}
-use Rattle.sheet_edits.proofs.Sound.{copied_sound, given_sound, the_same}
+use Rattle.sheet_edits.proofs.Sound.{copied_sound, given_sound}
 use Rattle.sheet_edits.proofs.Spanned.{nothing_given}
 use Rattle.sheet_edits.specs.Spans.{copied_state, source_of}
 use Rattle.sheet_edits.proofs.spans.copied.Goals as goal
@@ -31,5 +32,5 @@ source_of-requires-clause-col c = (c.requires c.cell-item.result
 pub returns-clause-sound : goal.returns-clause-sound
 returns-clause-sound c = given_sound c.loop-cell.changes (has same_place (take c.loop-cell.cell-index c.args.cells.now))
     (λ x. Some (copied_state (get c.args.store.now.cells (source_of c.args.from c.args.first x)))) c.loop-cell.invariant
-    (λ x s e. subst IsSound (the_same _ s e)
+    (λ x s e. subst IsSound (same_Some _ s e)
     (copied_sound c.args.store.now.cells c.are_held.ensures (source_of c.args.from c.args.first x)))

@@ -1,10 +1,11 @@
 use Rattle.std.proofs.Common.{◌++◌, ◌∙◌, List, ap, sym, append-nil}
 use Rattle.std.specs.Prelude.{flat_map}
+use Rattle.list_lemmas.proofs.Results.{on_err_always}
 use Rattle.grid_address.specs.Place.{Place}
 use Rattle.sheet_store.specs.State.{CellState}
 use Rattle.sheet_listing.specs.Listed.{cell_line}
 use Rattle.sheet_listing.specs.Waiting.{added}
-use Rattle.sheet_listing.proofs.Fronts.{broken, on_err, one_line}
+use Rattle.sheet_listing.proofs.Fronts.{broken, one_line}
 use Rattle.sheet_listing.proofs.cells.list_cells.Goals as goal
 
 pub loop-entry-preserved : goal.loop-entry-preserved
@@ -25,7 +26,7 @@ returns-in_err-list_cell-clause-err g c =
     let of = cell_line c.args.names.now in
     let same = ap (λ (l : List (Place × CellState)). added now (old ++ flat_map of l)) (sym c.in-Some.ensures.some) ∙
     c.loop-entry.invariant.0 in
-    on_err c.from_residual.result
+    on_err_always c.from_residual.result
     (broken _ now _ old _ _ (flat_map of c.next.new.self) same c.in_err-list_cell.ensures.err)
 
 pub returns-clause-ok : goal.returns-clause-ok

@@ -1,10 +1,11 @@
 use Rattle.std.proofs.Common.{◌++◌, ◌∙◌, ℕ, List, [], ◌∷◌, codes, ap, subst, sym, append-nil}
 use Rattle.std.specs.Prelude.{flat_map}
+use Rattle.list_lemmas.proofs.Results.{on_err_always}
 use Rattle.grid_address.specs.Place.{Extent}
 use Rattle.sheet_listing.specs.Lines.{line}
 use Rattle.sheet_listing.specs.Listed.{corners, name_line}
 use Rattle.sheet_listing.specs.Waiting.{added, IsFront}
-use Rattle.sheet_listing.proofs.Fronts.{broken, on_err, one_line}
+use Rattle.sheet_listing.proofs.Fronts.{broken, one_line}
 use Rattle.sheet_listing.proofs.names.list_names.Goals as goal
 
 pub loop-key-preserved : goal.loop-key-preserved
@@ -32,7 +33,7 @@ returns-in_err-list_name-clause-err g c =
     let front = subst (λ (n : List ℕ). IsFront (written c.list_name.new.lines)
     (added now (old ++ line (codes "name") (n ∷ corners c.in-Some.span.now ∷ [])))) c.name_in.ensures.name
     c.in_err-list_name.ensures.err in
-    on_err c.from_residual.result (broken _ now _ old _ _ (flat_map name_line c.next.new.self) same front)
+    on_err_always c.from_residual.result (broken _ now _ old _ _ (flat_map name_line c.next.new.self) same front)
 
 pub returns-clause-ok : goal.returns-clause-ok
 returns-clause-ok g c =

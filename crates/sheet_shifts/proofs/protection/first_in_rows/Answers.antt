@@ -1,6 +1,7 @@
+use Rattle.std.specs.Option.{option_or}
 use Rattle.std.proofs.Common.{◌≡◌, ◌+◌, ◌-◌, ◌∙◌, ℕ, Bool, None, Some, ap, sym, arith}
 use Rattle.grid_address.specs.Place.{Place}
-use Rattle.sheet_shifts.specs.Refusals.{first_in_row, first_in_rows, is_marked_at, or_else}
+use Rattle.sheet_shifts.specs.Refusals.{first_in_row, first_in_rows, is_marked_at}
 use Rattle.sheet_shifts.proofs.Rows.{down_by, down_place, rows_end, rows_step}
 use Rattle.sheet_shifts.proofs.protection.first_in_rows.Goals as goal
 
@@ -12,7 +13,7 @@ returns-in-Some c =
     let place = down_place c.first.inside.row c.first.inside.col at c.args.first c.first.view_is in
     let found : first_in_row test c.args.width here ≡ Some c.in-Some.cell =
     sym (ap (first_in_row test c.args.width) place) ∙ sym c.first_in_row.ensures ∙ c.in-Some.is in
-    sym (ap (λ o. or_else o
+    sym (ap (λ o. option_or o
     (first_in_rows test (c.args.height - (at + 1)) c.args.width (down_by c.args.first (at + 1)))) found)
     ∙ sym (rows_step test c.args.height c.args.width at c.args.first c.loop-at-test.true) ∙ c.loop-at.invariant
 
@@ -24,7 +25,7 @@ loop-at-preserved c =
     let place = down_place c.first.inside.row c.first.inside.col at c.args.first c.first.view_is in
     let none : first_in_row test c.args.width here ≡ None =
     sym (ap (first_in_row test c.args.width) place) ∙ sym c.first_in_row.ensures ∙ c.in_default.is in
-    sym (ap (λ o. or_else o
+    sym (ap (λ o. option_or o
     (first_in_rows test (c.args.height - (at + 1)) c.args.width (down_by c.args.first (at + 1)))) none)
     ∙ sym (rows_step test c.args.height c.args.width at c.args.first c.loop-at-test.true) ∙ c.loop-at.invariant
 

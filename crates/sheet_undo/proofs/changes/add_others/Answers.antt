@@ -1,8 +1,9 @@
 use Rattle.std.specs.FinMap.{insert}
 use Rattle.std.specs.Prelude.{Some, ◌∷◌}
 use Rattle.std.proofs.Common.{◌≡◌, ◌∙◌, ap, subst, sym}
-use Rattle.sheet_undo.proofs.Between.{all_and, all_given, given_other, giving_begun, IsGiving}
+use Rattle.sheet_undo.proofs.Between.{all_given, given_other, giving_begun, IsGiving}
 use Rattle.edit_log.specs.Changes.{all_changed, changed_at}
+use Rattle.edit_log.proofs.Changed.{all_and}
 use Rattle.sheet_undo.proofs.changes.add_others.Goals as goal
 
 pub loop-entry-init : goal.loop-entry-init

@@ -1,7 +1,8 @@
 use Rattle.std.specs.FinMap.{remove}
 use Rattle.std.proofs.Common.{◌≡◌, ◌∙◌, ap, subst}
-use Rattle.sheet_undo.proofs.Between.{all_and, taken_gone, taking_begun, IsTaking}
+use Rattle.sheet_undo.proofs.Between.{taken_gone, taking_begun, IsTaking}
 use Rattle.edit_log.specs.Changes.{all_changed, changed_at}
+use Rattle.edit_log.proofs.Changed.{all_and}
 use Rattle.sheet_undo.proofs.changes.cells_gone.Goals as goal
 
 pub loop-entry-init : goal.loop-entry-init

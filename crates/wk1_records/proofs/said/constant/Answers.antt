@@ -1,23 +1,9 @@
-use Rattle.std.proofs.Common.{◌≡◌, ap, ◌∙◌, inl, inr}
-use Rattle.std.specs.Prelude.{nat_lt, Ok}
-use Rattle.std.proofs.lemmas.Bool.{cases_Bool}
-use Rattle.formula_tree.specs.Formulas.{formula_of}
-use Rattle.formula_tree.specs.Shape.{depth, has_shape}
-use Rattle.formula_tree.specs.Tree.{call, Tree}
+use Rattle.std.proofs.Common.{ap, ◌∙◌}
+use Rattle.formula_tree.specs.Tree.{call}
 use Rattle.formula_tree.specs.View.{listed}
 use Rattle.formula_tree.proofs.Rows.{tree_of-Call}
+use Rattle.formula_tree.proofs.Formulas.{made_is}
 use Rattle.wk1_records.proofs.said.constant.Goals as goal
-
--- a formula that is made is its tree
-made_is : (t f : Tree) → formula_of t ≡ Ok f → f ≡ t
-made_is t f e =
-    elim (cases_Bool (has_shape t)) [
-      | inl shaped ↦ elim (cases_Bool (nat_lt 256 (depth t))) [
-        | inl deep ↦ absurd (let x = rw (shaped, deep) at e in cc)
-        | inr shallow ↦ (let x = rw (shaped, shallow) at e in cc)
-      ]
-      | inr other ↦ absurd (let x = rw other at e in cc)
-    ]
 
 pub returns-in-Ok : goal.returns-in-Ok
 returns-in-Ok c =

@@ -1,5 +1,6 @@
-use Rattle.std.proofs.Common.{refl, ap, sym, ◌∙◌, subst, ◌<◌, List, Result, Ok, Err, OnErr, arith}
+use Rattle.std.proofs.Common.{refl, ap, sym, ◌∙◌, subst, ◌<◌, List, arith}
 use Rattle.std.specs.FinMap.{from_entries, get, insert}
+use Rattle.list_lemmas.proofs.Results.{on_err_always}
 use Rattle.grid_address.specs.Place.{place_cmp}
 use Rattle.cell_maps.specs.Filled.{cells_of, filled}
 use Rattle.cell_maps.specs.inner.Numbering.{AreNumbered}
@@ -7,10 +8,6 @@ use Rattle.cell_maps.proofs.Filled.{added, added_numbered, few, got_none, put_in
 use Rattle.cell_maps.specs.declared.held.Held.{Held}
 use Rattle.cell_maps.specs.declared.held.Held.TheVariants as held
 use Rattle.cell_maps.proofs.map.CellMap.insert.Goals as goal
-
-on_err_always : {A B : Type 0} (r : Result A B) {P : Type 0} → P → OnErr r P
-on_err_always (Ok _) p = tt
-on_err_always (Err _) p = p
 
 pub index_mut-requires : goal.index_mut-requires
 index_mut-requires g c = subst (λ n. c.in-Some.at < n) (sym c.self.inside.held.ok.0) (within c.self.inside.table

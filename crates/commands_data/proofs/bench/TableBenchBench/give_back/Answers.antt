@@ -1,6 +1,6 @@
 use Rattle.std.proofs.Common.{sym, ◌∙◌}
+use Rattle.std.proofs.lemmas.Result.{on_ok_weaker}
 use Rattle.commands_data.proofs.Behind.{same_bench}
-use Rattle.sheet_edits.proofs.Gathering.{on_ok}
 use Rattle.commands_data.proofs.bench.TableBenchBench.give_back.Goals as goal
 
 -- what the cells hold is what was written, and stays it where that is written again
@@ -10,7 +10,7 @@ returns-clause-old c =
     let same =
     same_bench kept c.args.self.now.sheet.now c.write_out.new.sheet
     (c.write_out.ensures.same c.args.self.now.keeps_formats) in
-    on_ok c.write_out.result (λ holds. holds ∙ sym same.kept) c.write_out.ensures.written
+    on_ok_weaker c.write_out.result (λ holds. holds ∙ sym same.kept) c.write_out.ensures.written
 
 pub returns-clause-same : goal.returns-clause-same
 returns-clause-same c =

@@ -1,7 +1,8 @@
 use Rattle.std.specs.Prelude.{not}
 use Rattle.std.proofs.Common.{ap, subst, sym, ◌∙◌}
+use Rattle.list_lemmas.proofs.Results.{on_err_always}
 use Rattle.depend_graph.proofs.Listing.{listed_on, offering_listed}
-use Rattle.depend_graph.proofs.Offers.{on_err, refused, taken_up, unoffered}
+use Rattle.depend_graph.proofs.Offers.{refused, taken_up, unoffered}
 use Rattle.depend_graph.proofs.Viewed.{offered_again, viewed_offered, viewed_withdrawn}
 use Rattle.depend_graph.specs.inner.Lists.{AreInLists, IsListed}
 use Rattle.depend_graph.specs.Network.{offered, withdrawn, Network}
@@ -21,7 +22,7 @@ invariant_of-self c = (
 )
 
 pub returns-in_err-add_all-clause-err : goal.returns-in_err-add_all-clause-err
-returns-in_err-add_all-clause-err c = on_err c.from_residual.result _ (ap network_of c.drop_part.ensures
+returns-in_err-add_all-clause-err c = on_err_always c.from_residual.result (ap network_of c.drop_part.ensures
     ∙ viewed_withdrawn c.self.inside.slots c.args.cell ∙ ap (λ g. withdrawn g c.args.cell) c.self.view_is)
 
 pub invariant_of-self-in_err-fill : goal.invariant_of-self-in_err-fill
@@ -38,7 +39,7 @@ invariant_of-self-in_err-fill c = (
 )
 
 pub returns-in_err-fill-clause-err : goal.returns-in_err-fill-clause-err
-returns-in_err-fill-clause-err c = on_err c.from_residual-in_err-fill.result _ (ap network_of c.drop_part.ensures
+returns-in_err-fill-clause-err c = on_err_always c.from_residual-in_err-fill.result (ap network_of c.drop_part.ensures
     ∙ viewed_withdrawn c.self.inside.slots c.args.cell ∙ ap (λ g. withdrawn g c.args.cell) c.self.view_is)
 
 pub invariant_of-self-in_err-put_offer : goal.invariant_of-self-in_err-put_offer
@@ -57,7 +58,7 @@ invariant_of-self-in_err-put_offer c = (
 )
 
 pub returns-in_err-put_offer-clause-err : goal.returns-in_err-put_offer-clause-err
-returns-in_err-put_offer-clause-err c = on_err c.from_residual-in_err-put_offer.result _
+returns-in_err-put_offer-clause-err c = on_err_always c.from_residual-in_err-put_offer.result
     (ap network_of (c.in_err-put_offer.ensures.err ∙ c.drop_part.ensures)
     ∙ viewed_withdrawn c.self.inside.slots c.args.cell ∙ ap (λ g. withdrawn g c.args.cell) c.self.view_is)
 

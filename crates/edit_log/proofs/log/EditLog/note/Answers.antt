@@ -1,8 +1,9 @@
 use Rattle.std.specs.FinMap.{get}
 use Rattle.std.specs.Prelude.{◌≡◌, ◌++◌, ◌∷◌, [], false, refl, List, Option}
 use Rattle.std.proofs.Common.{ap, sym, ◌∙◌}
+use Rattle.std.proofs.lemmas.Result.{on_ok_weaker}
 use Rattle.cell_maps.specs.Sets.{has}
-use Rattle.edit_log.proofs.Changed.{either, noted_last, noted_more, on_ok, same_put}
+use Rattle.edit_log.proofs.Changed.{either, noted_last, noted_more, same_put}
 use Rattle.edit_log.specs.Changes.{all_changed, is_noted}
 use Rattle.grid_address.specs.Place.{same_place, Place}
 use Rattle.sheet_store.specs.State.{CellState}
@@ -29,7 +30,7 @@ returns-clause-more c = λ q h.
     (λ e. ap (λ l. is_noted l q) e ∙ h)
 
 pub returns-clause-noted : goal.returns-clause-noted
-returns-clause-noted c = on_ok c.add.result
+returns-clause-noted c = on_ok_weaker c.add.result
     (λ e. ap (λ l. is_noted l c.args.cell) e
     ∙ ap (λ (k : Place). is_noted (c.args.self.now ++ c.in_ok-change.change ∷ []) k)
     (sym (ap (λ (x : Place × Option CellState). x.0) c.in_ok-change.ensures))

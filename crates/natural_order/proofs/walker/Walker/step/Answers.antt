@@ -1,6 +1,7 @@
 use Rattle.std.specs.Prelude.{◌≡◌, ◌≤◌, ◌<◌, ◌∷◌, [], true, List, ◌++◌, length}
 use Rattle.std.proofs.Common.{sym, ◌∙◌, ap, subst, arith}
 use Rattle.std.proofs.Math.ListN.{drop_of_length-le}
+use Rattle.std.proofs.Math.Nat.{lt_of_le_of_lt}
 use Rattle.cell_maps.specs.Sets.{has}
 use Rattle.natural_order.specs.Walk.{Walked}
 use Rattle.grid_address.specs.Place.{same_place, Place}
@@ -9,7 +10,7 @@ use Rattle.natural_order.specs.inner.Stack.{finish, work_left, IsOnPath, left, w
 use Rattle.natural_order.specs.declared.walker.Frame.{Frame}
 use Rattle.natural_order.proofs.Machine.{on-advanced, advanced, reads-last, has_at, finish-advanced, left-advanced}
 use Rattle.natural_order.proofs.Machine.{finish-closed, path-last, last-apart, closed_less, inserted_new, on-closed}
-use Rattle.natural_order.proofs.Machine.{advanced_less, less_still}
+use Rattle.natural_order.proofs.Machine.{advanced_less}
 use Rattle.natural_order.proofs.walker.Walker.step.Goals as goal
 
 pub visit-requires-clause-known : goal.visit-requires-clause-known
@@ -66,7 +67,7 @@ returns-in_ok-visit-clause-less g c =
     let path : List Place = c.args.self.now.path.keys in
     let f : Frame = c.in-Some.frame in
     let lt : f.next < length f.reads.items = omega arith in
-    less_still
+    lt_of_le_of_lt
     (subst
     (λ (fs : List Frame). work_left pre all c.visit.new.self.done.keys c.visit.new.self.path.keys
     c.visit.new.self.stack.items

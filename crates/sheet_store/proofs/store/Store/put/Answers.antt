@@ -1,13 +1,10 @@
-use Rattle.std.specs.Prelude.{◌≡◌, true, false, cond, Result, Ok, Err, OnErr}
+use Rattle.std.specs.Prelude.{◌≡◌, true, false, cond}
 use Rattle.std.proofs.Common.{ap, sym, ◌∙◌, subst}
 use Rattle.std.specs.FinMap.{get, insert, remove}
+use Rattle.list_lemmas.proofs.Results.{on_err_always}
 use Rattle.sheet_store.specs.Grid.{clear_cell, is_kept, AreHeld, Grid, IsHeld}
 use Rattle.sheet_store.proofs.Held.{inserted_held, removed_held}
 use Rattle.sheet_store.proofs.store.Store.put.Goals as goal
-
-on_err_always : {A B : Type 0} (r : Result A B) {P : Type 0} → P → OnErr r P
-on_err_always (Ok _) p = tt
-on_err_always (Err _) p = p
 
 pub returns-then-not-is_kept-clause-ok : goal.returns-then-not-is_kept-clause-ok
 returns-then-not-is_kept-clause-ok c =

@@ -2,10 +2,11 @@ use Rattle.std.specs.Prelude.{◌≡◌, true, None, Some, is_some}
 use Rattle.std.proofs.Common.{ap, sym, ◌∙◌, subst}
 use Rattle.std.specs.FinMap.{get, insert}
 use Rattle.std.proofs.lemmas.Bool.{false≢true}
+use Rattle.std.proofs.lemmas.Option.{same_Some}
 use Rattle.sheet_store.specs.Grid.{is_formula, AreHeld, Grid, IsHeld}
 use Rattle.sheet_store.specs.State.{CellState}
 use Rattle.sheet_store.specs.declared.store.Store.TheInside.{Inside}
-use Rattle.sheet_store.proofs.Held.{inserted_held, same_some, valued_held}
+use Rattle.sheet_store.proofs.Held.{inserted_held, valued_held}
 use Rattle.sheet_store.proofs.store.Store.set_value.Goals as goal
 use Rattle.sheet_store.proofs.store.Store.set_value.Goals.{in-Some, in-None}
 
@@ -17,7 +18,7 @@ invariant_of-self c = elim c.match-get_mut.branch [
       let old = c.self.inside.cells in
       let found : get old c.args.cell ≡ Some s = sym w.in-Some.ensures.value in
       let known : c.requires.formula.0 ≡ s =
-      same_some c.requires.formula.0 s
+      same_Some c.requires.formula.0 s
       (sym c.requires.formula.1 ∙ ap (λ (g : Grid). get g.cells c.args.cell) (sym c.self.view_is) ∙ found) in
       let formula : is_formula s.content ≡ true =
       subst (λ (x : CellState). is_formula x.content ≡ true) known c.requires.formula.2 in

@@ -2,10 +2,11 @@ use Rattle.std.specs.Prelude.{◌≡◌, false, None, Some, is_some}
 use Rattle.std.proofs.Common.{ap, sym, ◌∙◌, subst}
 use Rattle.std.specs.FinMap.{get, insert}
 use Rattle.std.proofs.lemmas.Bool.{false≢true}
+use Rattle.std.proofs.lemmas.Option.{same_Some}
 use Rattle.sheet_store.specs.Grid.{is_blank, AreHeld, Grid, IsHeld}
 use Rattle.sheet_store.specs.State.{CellState}
 use Rattle.sheet_store.specs.declared.store.Store.TheInside.{Inside}
-use Rattle.sheet_store.proofs.Held.{formatted_held, inserted_held, same_some}
+use Rattle.sheet_store.proofs.Held.{formatted_held, inserted_held}
 use Rattle.sheet_store.proofs.store.Store.write_format.Goals as goal
 use Rattle.sheet_store.proofs.store.Store.write_format.Goals.{in-Some, in-None}
 
@@ -17,7 +18,7 @@ invariant_of-self c = elim c.match-get_mut.branch [
       let old = c.self.inside.cells in
       let found : get old c.args.cell ≡ Some s = sym w.in-Some.ensures.value in
       let known : c.requires.0 ≡ s =
-      same_some c.requires.0 s
+      same_Some c.requires.0 s
       (sym c.requires.1 ∙ ap (λ (g : Grid). get g.cells c.args.cell) (sym c.self.view_is) ∙ found) in
       let filled : is_blank s.content ≡ false =
       subst (λ (x : CellState). is_blank x.content ≡ false) known c.requires.2 in
