@@ -1,5 +1,5 @@
 -- An edit of contents as a command.
-use Rattle.std.specs.Prelude.{ℕ, ◌≡◌, Bool, true, false, refl, List, Option, None, Some, IfOk, OnErr, OnOk, Result, Ok}
+use Rattle.std.specs.Prelude.{ℕ, ◌≡◌, Bool, true, false, refl, List, Option, None, Some, OnErr, OnOk, Result, Ok}
 use Rattle.std.specs.Prelude.{Err}
 use Rattle.std.proofs.Common.{ap, sym, ◌∙◌, subst}
 use Rattle.desk_errors.specs.declared.error.CommandError.TheVariants as error
@@ -13,8 +13,8 @@ use Rattle.sheet_shifts.specs.Refusals.{refusal}
 use Rattle.sheet_shifts.specs.declared.shift.Shift.{Shift}
 use Rattle.sheet_store.specs.declared.writes.SheetFault.{SheetFault}
 use Rattle.sheet_store.specs.declared.writes.SheetFault.TheVariants as fault
-use Rattle.work_sheet.proofs.Done.{did_both}
-use Rattle.work_sheet.specs.Did.{work_of, Did, DidEdit}
+use Rattle.work_sheet.proofs.Done.{did_both, left}
+use Rattle.work_sheet.specs.Did.{Did, DidEdit}
 use Rattle.work_sheet.specs.Doing.{quiet, settled, Done}
 use Rattle.work_sheet.specs.Editing.{shifted}
 use Rattle.work_sheet.specs.Seen.{of_worksheet, Sheet}
@@ -26,11 +26,6 @@ use Rattle.command_desk.specs.Acting.{unless_protected, unless_refused, written,
 use Rattle.command_desk.specs.declared.ending.CommandEnd.{CommandEnd}
 use Rattle.command_desk.specs.declared.ending.CommandEnd.TheVariants.{Finished, Refused}
 
--- where an answer is Ok, what follows of what is told of it
-pub if_ok : {A E : Type 0} (r : Result A E) {P Q : A → Type 0} → ((x : A) → P x → Q x) → IfOk r P → IfOk r Q
-if_ok (Ok x) f p = f x p
-if_ok (Err e) f p = p
-
 -- what an option holds
 some_is : (a b : CommandEnd) → Some a ≡ Some b → a ≡ b
 some_is a b e = ap (λ (o : Option CommandEnd). held o) e
@@ -38,14 +33,6 @@ some_is a b e = ap (λ (o : Option CommandEnd). held o) e
     held : Option CommandEnd → CommandEnd
     held None = a
     held (Some x) = x
-
--- nothing was done
-pub left : (v w : Worksheet) (m n : ℕ) → w ≡ v → n ≡ m → Did (quiet (of_worksheet v)) v w m n
-left v w m n same count = record {
-  sheet = ap of_worksheet same;
-  work = λ i. work_of (same i) (count i);
-  history = ap (λ (x : Worksheet). x.history) same;
-}
 
 -- a refused edit
 pub was_refused : (f : SheetFault) (e : CommandEnd) (scene : Scene) (end : CommandEnd) (v mid w : Worksheet) (m n : ℕ) →

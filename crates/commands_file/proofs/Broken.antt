@@ -1,13 +1,10 @@
 -- Memory that runs out where calls are made of the shelf.
-use Rattle.std.specs.Prelude.{◌≡◌, cond, if◌then◌else◌, ℕ, OnErr, Bool, false, refl, List, [], ◌∷◌, ◌++◌}
+use Rattle.std.specs.Prelude.{◌≡◌, if◌then◌else◌, ℕ, Bool, false, refl, List, [], ◌∷◌, ◌++◌}
 use Rattle.std.specs.Prelude.{Option, None, Some, Result, Ok, Err}
 use Rattle.std.specs.Str.{bytes_eq}
-use Rattle.std.proofs.Common.{ap, inl, inr, subst, sym, ◌∙◌}
+use Rattle.std.proofs.Common.{ap, inl, inr, subst, sym}
 use Rattle.std.proofs.lemmas.Bool.{cases_Bool}
-use Rattle.std.proofs.lemmas.Map.Text.{is_eq-slice_cmp}
 use Rattle.std.proofs.lemmas.Slice.Eq.{bytes_eq-Decides}
-use Rattle.std.specs.Cmp.Lexicographic.{nat_list_cmp_total}
-use Rattle.std.specs.FinMap.{get-insert, get-remove}
 use Rattle.command_desk.specs.Acting.{DeskActed}
 use Rattle.command_desk.specs.Desks.{Desk}
 use Rattle.commands_file.specs.Calls.{failed, puts, removes, shelf_view, Asked, HasBrokenOver, HaveAnswered}
@@ -16,19 +13,10 @@ use Rattle.commands_file.specs.Commands.{by_call, put_readable, refused, without
 use Rattle.commands_file.specs.Steps.{HasCalled}
 use Rattle.commands_file.specs.inner.Placing.{IsUnplaced}
 use Rattle.desk_errors.specs.declared.error.CommandError.TheVariants as error
-use Rattle.outside_world.specs.Shelf.{Files, file_in, held_as, HasCause, HasPut, HasRead, HasRemoved, OnShelf}
+use Rattle.outside_world.specs.Shelf.{Files, file_in, HasCause, HasPut, HasRead, HasRemoved, OnShelf}
 use Rattle.outside_world.specs.declared.faults.ShelfFault.{ShelfFault}
 use Rattle.outside_world.specs.declared.faults.ShelfFault.TheVariants.{Failed, Memory}
-
--- what is known anyway
-pub on_err : {A E P : Type 0} (result : Result A E) → P → OnErr result P
-on_err (Ok x) p = tt
-on_err (Err e) p = p
-
--- what follows from what is known of an error
-pub err_map : {A E P Q : Type 0} (result : Result A E) → (P → Q) → OnErr result P → OnErr result Q
-err_map (Ok x) f p = tt
-err_map (Err e) f p = f p
+use Rattle.outside_world.proofs.Found.{passed}
 
 -- ---- one call
 
@@ -37,21 +25,6 @@ other_than other name apart = elim (cases_Bool (bytes_eq other name)) [
   | inl same ↦ absurd (apart ((bytes_eq-Decides other name).0 same))
   | inr differ ↦ differ
 ]
-
-held_other : (held : Option (List ℕ)) (name wanted : List ℕ) (files : Files) →
-    file_in wanted (held_as name held files) ≡ cond (bytes_eq wanted name) held (file_in wanted files)
-held_other None name wanted files =
-    get-remove nat_list_cmp_total files name wanted
-    ∙ ap (λ b. cond b None (file_in wanted files)) (is_eq-slice_cmp wanted name)
-held_other (Some bytes) name wanted files =
-    get-insert nat_list_cmp_total files name bytes wanted
-    ∙ ap (λ b. cond b (Some bytes) (file_in wanted files)) (is_eq-slice_cmp wanted name)
-
--- another file holds what it did
-passed : (held : Option (List ℕ)) (name wanted : List ℕ) (files : Files) → bytes_eq wanted name ≡ false →
-    file_in wanted (held_as name held files) ≡ file_in wanted files
-passed held name wanted files other =
-    held_other held name wanted files ∙ ap (λ b. cond b held (file_in wanted files)) other
 
 -- no file changed
 keeps_all : (call : ShelfCall) (s t : OnShelf) (now : Option OnShelf) → now ≡ Some t → t.files ≡ s.files

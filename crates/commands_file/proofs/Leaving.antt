@@ -3,7 +3,6 @@ use Rattle.std.specs.Prelude.{◌≡◌, ℕ, Bool, true, false, refl, if◌then
 use Rattle.std.specs.FinMap as map
 use Rattle.std.specs.List.{list_any}
 use Rattle.std.proofs.Common.{subst}
-use Rattle.command_desk.proofs.Edited.{left}
 use Rattle.command_desk.specs.Acting.{refused, HasActed}
 use Rattle.command_desk.specs.declared.ending.CommandEnd.{CommandEnd}
 use Rattle.command_desk.specs.declared.ending.CommandEnd.TheVariants.{Refused}
@@ -14,6 +13,7 @@ use Rattle.formula_parts.specs.declared.look.Scene.{Scene}
 use Rattle.sheet_store.specs.Grid.{Grid}
 use Rattle.work_sheet.specs.Seen.{of_worksheet}
 use Rattle.work_sheet.specs.Sheets.{Worksheet}
+use Rattle.work_sheet.proofs.Done.{left}
 
 module _ (k : Combining) (file : Grid) (scene : Scene) (v w : Worksheet) (m n : ℕ) (came : CommandEnd) where
   -- what it is, by whether one would

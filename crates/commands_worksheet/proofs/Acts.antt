@@ -2,7 +2,6 @@
 use Rattle.std.specs.Prelude.{ℕ, suc, zero, ◌+◌, ◌≡◌, Bool, refl, Option, Result, Ok, Err}
 use Rattle.std.specs.List.{range_with_len}
 use Rattle.std.proofs.Common.{ap, subst, sym, ◌∙◌}
-use Rattle.command_desk.proofs.Edited.{left}
 use Rattle.command_desk.specs.Acting.{given, Acted, HasActed}
 use Rattle.command_desk.specs.declared.ending.CommandEnd.{CommandEnd}
 use Rattle.command_desk.specs.declared.ending.CommandEnd.TheVariants.{Refused}
@@ -13,6 +12,7 @@ use Rattle.work_sheet.specs.Doing.{quiet}
 use Rattle.work_sheet.specs.Editing.{with_hidden, with_width}
 use Rattle.work_sheet.specs.Seen.{of_worksheet, Sheet}
 use Rattle.work_sheet.specs.Sheets.{Worksheet}
+use Rattle.work_sheet.proofs.Done.{left}
 use Rattle.commands_worksheet.specs.Commands.{all_hidden, columns_of, hidden_in}
 
 -- a value that a command needs was given

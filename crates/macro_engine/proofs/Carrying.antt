@@ -1,6 +1,6 @@
 -- What comes of an edit that a word makes.
 use Rattle.std.specs.Prelude.{ℕ, ◌≡◌, ◌&&◌, ◌||◌, Bool, true, false, if◌then◌else◌, refl, List, [], ◌∷◌, Option, None}
-use Rattle.std.specs.Prelude.{Some, IfOk, OnErr, OnOk, Result, Ok, Err}
+use Rattle.std.specs.Prelude.{Some, OnErr, OnOk, Result, Ok, Err}
 use Rattle.std.specs.declared.cmp.Ordering.{Ordering}
 use Rattle.std.specs.declared.cmp.Ordering.TheVariants.{Equal, Greater, Less}
 use Rattle.std.specs.Ordering.{ordering_reverse}
@@ -18,26 +18,13 @@ use Rattle.sheet_edits.specs.inner.Marks.{IsFirstMarked, IsFirstOf}
 use Rattle.sheet_store.specs.Grid.{Grid}
 use Rattle.sheet_store.specs.declared.writes.SheetFault.{SheetFault}
 use Rattle.sheet_store.specs.declared.writes.SheetFault.TheVariants as fault
-use Rattle.work_sheet.proofs.Done.{did_both}
-use Rattle.work_sheet.specs.Did.{work_of, Did, DidEdit}
-use Rattle.work_sheet.specs.Doing.{and_then, quiet, settled, Done}
+use Rattle.work_sheet.proofs.Done.{did_both, left}
+use Rattle.work_sheet.specs.Did.{Did, DidEdit}
+use Rattle.work_sheet.specs.Doing.{and_then, settled, Done}
 use Rattle.work_sheet.specs.Seen.{of_worksheet, Sheet}
 use Rattle.work_sheet.specs.Sheets.{Worksheet}
 use Rattle.macro_engine.specs.inner.Carried.{HasCarried, HasSettled}
 use Rattle.macro_engine.specs.Changes.{changed, changed_cells, first_marked, refused_cell}
-
--- where an answer is Ok, what follows of what is told of it
-pub if_ok : {A E : Type 0} (r : Result A E) {P Q : A → Type 0} → ((x : A) → P x → Q x) → IfOk r P → IfOk r Q
-if_ok (Ok x) f p = f x p
-if_ok (Err e) f p = p
-
--- nothing was done
-pub left : (v w : Worksheet) (m n : ℕ) → w ≡ v → n ≡ m → Did (quiet (of_worksheet v)) v w m n
-left v w m n same count = record {
-  sheet = ap of_worksheet same;
-  work = λ i. work_of (same i) (count i);
-  history = ap (λ (x : Worksheet). x.history) same;
-}
 
 -- the first marked cell of a list is just that
 first_marked_is : (g : Grid) (cells : List Place) → IsFirstOf g (has same_place cells) (first_marked g cells)

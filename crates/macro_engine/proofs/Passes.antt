@@ -4,13 +4,12 @@ use Rattle.std.proofs.Common.{subst, sym}
 use Rattle.formula_eval.specs.Mean.{mean}
 use Rattle.formula_parts.specs.declared.look.Scene.{Scene}
 use Rattle.macro_words.specs.declared.running.Sweep.{Sweep}
-use Rattle.work_sheet.proofs.Done.{did_both}
+use Rattle.work_sheet.proofs.Done.{did_both, left}
 use Rattle.work_sheet.specs.Did.{Did}
 use Rattle.work_sheet.specs.Doing.{quiet, Done}
 use Rattle.work_sheet.specs.Seen.{of_worksheet, Sheet}
 use Rattle.work_sheet.specs.Sheets.{Worksheet}
 use Rattle.work_sheet.specs.Spans.{span_recalculated}
-use Rattle.macro_engine.proofs.Carrying.{left}
 use Rattle.macro_engine.specs.Changes.{is_met, swept_within}
 
 module _ (rest : ℕ) (scene : Scene) (sweep : Sweep) (a mid : Worksheet) (m k : ℕ)

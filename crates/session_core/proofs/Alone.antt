@@ -1,5 +1,5 @@
 -- What makes no call of the shelf, and what a look for a file comes to.
-use Rattle.std.proofs.Common.{◌≡◌, Bool, true, false, List, [], Result, Ok, Err, IfOk, refl, sym, subst}
+use Rattle.std.proofs.Common.{◌≡◌, Bool, true, false, List, [], refl, sym, subst}
 use Rattle.std.specs.Prelude.{if◌then◌else◌}
 use Rattle.cell_pointer.specs.declared.way.Way.{Way}
 use Rattle.commands_file.specs.Calls.{failed, Asked, HaveAnswered, Reply, ShelfView}
@@ -65,8 +65,3 @@ looked_over command now told a b x y z reply act came is had leads more =
           (o (looked command.action command.answers reply).came).calls x y z had
           (subst (λ (k : Looked). HaveAnswered (o k).calls y z) is more);
     }
-
--- what follows from what holds of a good answer's value holds of that value too
-pub ok_map : {A E : Type 0} {P Q : A → Type 0} (r : Result A E) → ((x : A) → P x → Q x) → IfOk r P → IfOk r Q
-ok_map (Ok x) f p = f x p
-ok_map (Err e) f p = p

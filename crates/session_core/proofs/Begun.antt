@@ -1,6 +1,7 @@
 -- A command that is begun where a key can change the sheet, and one that is ended.
 use Rattle.std.proofs.Common.{◌≡◌, Bool, true, false, Option, None, ap, refl, sym, subst, ◌∙◌, ◌⊎◌, inl, inr}
-use Rattle.std.specs.Prelude.{◌&&◌, if◌then◌else◌}
+use Rattle.std.specs.Prelude.{if◌then◌else◌}
+use Rattle.std.proofs.lemmas.Bool.{and_right}
 use Rattle.commands_file.specs.Calls.{ShelfView}
 use Rattle.formula_parts.specs.declared.look.Scene.{Scene}
 use Rattle.key_words.specs.declared.key.Key.{Key}
@@ -50,14 +51,9 @@ either_beside false h s = record { history = s.history; is = refl }
 pub ended_beside : (changed : Bool) (s : State) → IsBeside s (command_ended changed s)
 ended_beside changed s = either_beside (is_at_end s) (ended changed s.history.begun s.history.kept) s
 
--- where none is begun, none is at its end
-both_false : (a : Bool) → (a && false) ≡ false
-both_false true = refl
-both_false false = refl
-
 -- where no command is begun, none is at its end
 pub none_at_end : (s : State) → s.history.begun ≡ None → is_at_end s ≡ false
-none_at_end s none = rw none (both_false _)
+none_at_end s none = rw none (and_right _ false refl)
 
 -- where no command is at its end, the state stays as it is
 pub not_over : (changed : Bool) (s : State) → is_at_end s ≡ false → command_ended changed s ≡ s

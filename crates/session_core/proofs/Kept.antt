@@ -1,9 +1,9 @@
 -- The lines that are the same from step to step.
-use Rattle.std.proofs.Common.{◌≡◌, ℕ, zero, suc, ◌+◌, ◌-◌, ◌/◌, ◌%◌, ◌≤◌, ◌<◌, Bool, true, false, List, [], ◌∷◌, ◌++◌}
+use Rattle.std.proofs.Common.{◌≡◌, ℕ, zero, suc, ◌+◌, ◌-◌, ◌/◌, ◌%◌, ◌≤◌, ◌<◌, Bool, true, false, List, [], ◌++◌}
 use Rattle.std.proofs.Common.{Option, Some, None, refl, ap, sym, subst, ◌∙◌, arith, inl, inr}
 use Rattle.std.specs.Prelude.{codes, get_or, if◌then◌else◌, is_some, length, nat_eq, nat_lt, not, slice_get, take}
 use Rattle.std.proofs.lemmas.Bool.{and_parts, cases_lt, eqb-true, false_from_ne_true, false≢true, lt-ltb, ltb-true}
-use Rattle.std.proofs.lemmas.Bool.{true≢false}
+use Rattle.std.proofs.lemmas.Bool.{not-true, true≢false}
 use Rattle.std.proofs.lemmas.List.{nil_from_length}
 use Rattle.std.proofs.lemmas.Option.{slice_get_past}
 use Rattle.session_rooms.specs.declared.panel.Mode.{Mode}
@@ -79,10 +79,6 @@ nothing_shown sheet (Some r) p h = nothing_waiting sheet r.waiting p h
 no_bytes : (text : List ℕ) → nat_eq (length text) 0 ≡ true → text ≡ []
 no_bytes text h = nil_from_length text (eqb-true (length text) 0 h)
 
-not_true : (b : Bool) → not b ≡ true → b ≡ false
-not_true true h = no_room h
-not_true false h = refl
-
 -- what is shown of a room, with END's mark and whether a macro runs
 abbrev plainly_shown : Room → Bool → Bool → Panel
 plainly_shown r end running = record (room_panel r) { end = end; running = running; indicate = [] }
@@ -103,7 +99,7 @@ module _ (s : State) (plain : IsPlain s) where
   panel_is =
       let parts = and_parts (not (shows_waiting s.running)) (nat_eq (length s.indicate) 0) is_plain_is in
       ap (λ (p : Panel). record p { end = s.end; running = is_running s; indicate = s.indicate })
-      (nothing_shown (sheet_of s) s.running (room_panel s.room) (not_true (shows_waiting s.running) parts.0))
+      (nothing_shown (sheet_of s) s.running (room_panel s.room) (not-true (shows_waiting s.running) parts.0))
       ∙ ap (λ (text : List ℕ). record (room_panel s.room) { end = s.end; running = is_running s; indicate = text })
       (no_bytes s.indicate parts.1)
 

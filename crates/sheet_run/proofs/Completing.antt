@@ -3,7 +3,7 @@ use Rattle.std.proofs.Common.{◌≡◌, ℕ, ◌+◌, ◌<◌, ◌≤◌, ◌-�
 use Rattle.std.proofs.Common.{Some, None, Result, Ok, Err, refl, sym, ap, ◌∙◌, subst, arith, inl, inr, append_assoc}
 use Rattle.std.proofs.Common.{length-append}
 use Rattle.std.specs.Prelude.{◌&&◌, ◌||◌, is_some, replicate}
-use Rattle.std.proofs.lemmas.Bool.{cases_lt, false≢true}
+use Rattle.std.proofs.lemmas.Bool.{and_parts, cases_lt}
 use Rattle.std.proofs.lemmas.List.{append-nil, length-map, replicate-append-replicate}
 use Rattle.outside_world.specs.Causes.{Rose}
 use Rattle.key_words.specs.declared.key.Key.{Key}
@@ -306,17 +306,12 @@ may_make answers o bounds before start first begun now taken steps left out open
       keys_are = sym (append-nil (keys_of steps));
     }
 
--- a strict run alone leaves something undone
-both_true : (a b : Bool) → (a && b) ≡ true → a ≡ true
-both_true true b is = refl
-both_true false b is = absurd (false≢true is)
-
 -- a step that stops a run and doesn't quit it stops a strict one
 by_refusal : (strict : Bool) (x : Outcome) → x.ends ≡ false → stops strict x ≡ true → strict ≡ true
 by_refusal strict x goes stopped =
     let rest : (strict && is_some (refused_of x.state)) ≡ true =
     sym (ap (λ (e : Bool). e || (strict && is_some (refused_of x.state))) goes) ∙ stopped in
-    both_true strict (is_some (refused_of x.state)) rest
+    (and_parts strict (is_some (refused_of x.state)) rest).0
 
 module _ (answers : Answers) (o : Options) (origin : Outside) (start : Beginning) (first : Moment) (bounds : Bounds)
     (before now : Outside) (bytes : List ℕ) (steps : List Step) (left out : List Watched)
@@ -355,7 +350,7 @@ module _ (answers : Answers) (o : Options) (origin : Outside) (start : Beginning
   only_well (Undone count at) leaves h =
       let t = took bytes h.taken before.bytes now.bytes told h.did.bytes in
       let none : t.0 ≡ [] = at_their_end_of bytes h.taken t.0 now.bytes t.1 t.2 short h.ended in (
-        inr (strictly ∙ both_true bounds.strict _ h.undone, refl),
+        inr (strictly ∙ (and_parts bounds.strict _ h.undone).0, refl),
         inl (record {
           taken = h.taken;
           took = h.did.bytes;

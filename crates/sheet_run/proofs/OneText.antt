@@ -10,12 +10,13 @@ use Rattle.key_words.specs.declared.begun.Begun.{Begun}
 use Rattle.key_words.specs.declared.begun.Begun.TheVariants.{Nothing}
 use Rattle.key_words.specs.declared.key.Key.{Key}
 use Rattle.key_words.proofs.Scanning.{after_keys, scan, scan-append, scan_then, text_scanned, word_scanned, Keys, Scan}
+use Rattle.key_words.proofs.Scanning.{keys_of_scan}
 use Rattle.sheet_run.specs.Notation.{pressed, HasKeys, SpellsKeys, SpellsUpTo}
 use Rattle.sheet_run.proofs.Completing.{into_all}
 use Rattle.sheet_run.proofs.Fronts.{shorter_begins}
 use Rattle.sheet_run.proofs.Pressed.{into_spelled, pressed-append}
 use Rattle.sheet_run.proofs.WordBegun.{begun_in, begun_scanned, is_line_end, keys_in, last_behind, last_of, line_ends}
-use Rattle.sheet_run.proofs.WordBegun.{more_keys, word_last}
+use Rattle.sheet_run.proofs.WordBegun.{word_last}
 
 -- bytes begin a text, and the words that are whole in them give these keys, and maybe more
 pub record Give (bytes : List ℕ) (keys : List Key) : Type 0 where
@@ -111,7 +112,7 @@ longer_gives : (front rest : List ℕ) (one other : List Key) → (f : Give fron
 longer_gives front rest one other f w =
     let both : after_keys f.words (scan f.begun rest) ≡ Some (w.words, w.begun) =
     sym (scan-append Nothing front rest ∙ ap (λ (s : Scan). scan_then s rest) f.scanned) ∙ w.scanned in
-    more_keys f.words (scan f.begun rest) w.words w.begun both
+    keys_of_scan f.words (scan f.begun rest) w.words w.begun both
 
 -- and so they give the keys of the first of them, and more
 longer_keys : (front rest : List ℕ) (one other : List Key) → (f : Give front one) → (w : Give (front ++ rest) other) →
@@ -218,7 +219,7 @@ up_to_longer a m keys (inl one) (inl other) =
     ap (λ (s : Scan). scan_then s m) (sym (text_scanned a front (into_spelled a keys one.key one.left i)))
     ∙ sym (scan-append Nothing a m)
     ∙ text_scanned (a ++ m) whole (into_spelled (a ++ m) keys other.key other.left j) in
-    let more = more_keys front (scan Nothing m) whole Nothing scanned in
+    let more = keys_of_scan front (scan Nothing m) whole Nothing scanned in
     elim (none_over (other.key, j.done + other.left) j.words front more.0 more.1) [
       | inl none ↦
           let behind : scan Nothing m ≡ Some ([], Nothing) = no_keys_behind front (scan Nothing m) more.0 Nothing none

@@ -191,3 +191,11 @@ reordered_did a b order n other sheet dirty distinct history =
       sheet = record (of_worksheet a) { settings = record a.settings { order = order } };
       log = all_dirty a.grid ∷ [];
     }
+
+-- nothing was done
+pub left : (v w : Worksheet) (m n : ℕ) → w ≡ v → n ≡ m → Did (quiet (of_worksheet v)) v w m n
+left v w m n same count = record {
+  sheet = ap of_worksheet same;
+  work = λ i. work_of (same i) (count i);
+  history = ap (λ (x : Worksheet). x.history) same;
+}

@@ -1,6 +1,6 @@
 use Rattle.std.specs.Prelude.{IfOk}
 use Rattle.std.proofs.Common.{subst, sym}
-use Rattle.command_desk.proofs.Edited.{if_ok}
+use Rattle.std.proofs.lemmas.Result.{IfOk-weaker}
 use Rattle.command_desk.specs.Desks.{of_desk}
 use Rattle.command_desk.specs.declared.ending.CommandEnd.{CommandEnd}
 use Rattle.commands_file.specs.Calls.{shelf_view}
@@ -16,7 +16,7 @@ returns-in-Save-clause-acted g c =
     c.args.desk.now c.save.new.desk n n
     (shelf_view (g.S.Shelf.holds c.args.shelf.now) (g.S.Shelf.faults c.args.shelf.now))
     (shelf_view (g.S.Shelf.holds c.save.new.shelf) (g.S.Shelf.faults c.save.new.shelf)))) (sym c.in-Save.is)
-    (if_ok c.save.result (λ end acted. acted n) c.save.ensures.acted)
+    (IfOk-weaker c.save.result _ _ (λ end acted. acted n) c.save.ensures.acted)
 
 pub returns-in-XtractFormulas-clause-acted : goal.returns-in-XtractFormulas-clause-acted
 returns-in-XtractFormulas-clause-acted g c =
@@ -27,7 +27,7 @@ returns-in-XtractFormulas-clause-acted g c =
     (shelf_view (g.S.Shelf.holds c.args.shelf.now) (g.S.Shelf.faults c.args.shelf.now))
     (shelf_view (g.S.Shelf.holds c.extract.new.shelf) (g.S.Shelf.faults c.extract.new.shelf))))
     (sym c.in-XtractFormulas.is)
-    (if_ok c.extract.result (λ end acted. acted n) c.extract.ensures.acted)
+    (IfOk-weaker c.extract.result _ _ (λ end acted. acted n) c.extract.ensures.acted)
 
 pub returns-in-XtractValues-clause-acted : goal.returns-in-XtractValues-clause-acted
 returns-in-XtractValues-clause-acted g c =
@@ -38,4 +38,4 @@ returns-in-XtractValues-clause-acted g c =
     (act_named a c.args.command.now.answers.now c.args.name c.args.scene.now (of_desk v)) end v v n n
     (shelf_view (g.S.Shelf.holds c.args.shelf.now) (g.S.Shelf.faults c.args.shelf.now))
     (shelf_view (g.S.Shelf.holds x.new.shelf) (g.S.Shelf.faults x.new.shelf)))) (sym c.in-XtractValues.is)
-    (if_ok x.result (λ end acted. acted n) x.ensures.acted)
+    (IfOk-weaker x.result _ _ (λ end acted. acted n) x.ensures.acted)

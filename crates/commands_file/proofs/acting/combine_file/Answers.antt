@@ -1,8 +1,9 @@
 use Rattle.std.proofs.Common.{subst}
-use Rattle.command_desk.proofs.Edited.{if_ok}
+use Rattle.std.proofs.lemmas.Result.{IfOk-weaker}
+use Rattle.list_lemmas.proofs.Results.{on_err_always}
 use Rattle.command_desk.specs.Acting.{on_desk}
 use Rattle.command_desk.specs.Desks.{of_desk}
-use Rattle.commands_file.proofs.Broken.{called_in, on_err, unfinished_in}
+use Rattle.commands_file.proofs.Broken.{called_in, unfinished_in}
 use Rattle.commands_file.proofs.Ended.{acted_on, made_over, refused_over}
 use Rattle.commands_file.specs.Calls.{gets, shelf_view}
 use Rattle.commands_file.specs.Combined.{combined}
@@ -17,7 +18,7 @@ returns-in-Sheet-clause-acted g c =
     let v = c.args.desk.now in
     let kind = c.args.kind in
     let scene = c.args.scene.now in
-    if_ok c.combine.result (λ end acted.
+    IfOk-weaker c.combine.result _ _ (λ end acted.
     made_over (λ saved. on_desk (combined kind saved.store scene) (of_desk v)) c.args.name.now v _ _ c.in-Sheet.saved
     end _ _ _
     (acted_on (combined kind c.in-Sheet.saved.store scene) end v c.combine.new.sheet _ _ acted)
@@ -28,7 +29,7 @@ returns-in-Sheet-clause-acted g c =
 
 pub returns-in-Sheet-clause-memory : goal.returns-in-Sheet-clause-memory
 returns-in-Sheet-clause-memory g c =
-    on_err c.combine.result
+    on_err_always c.combine.result
     (called_in (gets c.args.name.now) (combined_with c.args.kind c.args.scene.now (of_desk c.args.desk.now)) _ _
     loaded_as _ c.in_ok-loaded.ensures.loaded)
 
@@ -45,5 +46,5 @@ returns-in-Refused-clause-acted g c =
 -- memory ran out in the read
 pub returns-in_err-loaded-clause-memory : goal.returns-in_err-loaded-clause-memory
 returns-in_err-loaded-clause-memory g c =
-    on_err _ (unfinished_in (gets c.args.name.now)
+    on_err_always _ (unfinished_in (gets c.args.name.now)
     (combined_with c.args.kind c.args.scene.now (of_desk c.args.desk.now)) _ _ c.in_err-loaded.ensures.memory)

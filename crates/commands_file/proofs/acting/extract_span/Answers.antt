@@ -1,15 +1,15 @@
 use Rattle.std.specs.Prelude.{IfOk, OnErr, refl}
 use Rattle.std.proofs.Common.{inl, subst}
+use Rattle.list_lemmas.proofs.Results.{on_err_always}
 use Rattle.commands_file.specs.Calls.{shelf_view}
 use Rattle.commands_file.specs.inner.Placing.{IsPlaced, IsUnplaced}
 use Rattle.commands_file.specs.declared.calling.Placed.{Placed}
-use Rattle.commands_file.proofs.Broken.{on_err}
 use Rattle.sheet_store.specs.declared.writes.SavedSheet.{SavedSheet}
 use Rattle.wk1_file.specs.Saved.{file_bytes}
 use Rattle.commands_file.proofs.acting.extract_span.Goals as goal
 
 pub returns-in_err-saved-clause-memory : goal.returns-in_err-saved-clause-memory
-returns-in_err-saved-clause-memory g c = on_err c.from_residual.result (inl refl)
+returns-in_err-saved-clause-memory g c = on_err_always c.from_residual.result (inl refl)
 
 pub returns-clause-placed : goal.returns-clause-placed
 returns-clause-placed g c =

@@ -1,7 +1,8 @@
 use Rattle.std.proofs.Common.{subst}
+use Rattle.list_lemmas.proofs.Results.{on_err_always}
 use Rattle.command_desk.specs.Desks.{of_desk}
 use Rattle.command_desk.specs.declared.ending.CommandEnd.TheVariants.{Finished}
-use Rattle.commands_file.proofs.Broken.{called_in, on_err, unfinished_in}
+use Rattle.commands_file.proofs.Broken.{called_in, unfinished_in}
 use Rattle.commands_file.proofs.Ended.{done_on, made_over, refused_over}
 use Rattle.commands_file.specs.Calls.{gets, shelf_view}
 use Rattle.commands_file.specs.Commands.{finished, retrieved, retrieved_sheet}
@@ -37,12 +38,12 @@ returns-in-Refused-clause-acted g c =
 
 pub returns-in_err-replace-in-Sheet-clause-memory : goal.returns-in_err-replace-in-Sheet-clause-memory
 returns-in_err-replace-in-Sheet-clause-memory g c =
-    on_err c.from_residual-in_err-replace-in-Sheet.result
+    on_err_always c.from_residual-in_err-replace-in-Sheet.result
     (called_in (gets c.args.name.now) (retrieved c.args.scene.now (of_desk c.args.desk.now)) _ _ loaded_as _
     c.in_ok-loaded.ensures.loaded)
 
 -- memory ran out in the read
 pub returns-in_err-loaded-clause-memory : goal.returns-in_err-loaded-clause-memory
 returns-in_err-loaded-clause-memory g c =
-    on_err _ (unfinished_in (gets c.args.name.now) (retrieved c.args.scene.now (of_desk c.args.desk.now)) _ _
+    on_err_always _ (unfinished_in (gets c.args.name.now) (retrieved c.args.scene.now (of_desk c.args.desk.now)) _ _
     c.in_err-loaded.ensures.memory)

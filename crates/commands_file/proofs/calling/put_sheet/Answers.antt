@@ -1,13 +1,13 @@
 use Rattle.std.specs.Prelude.{IfOk, List, OnErr, refl, ℕ}
 use Rattle.std.proofs.Common.{inl, subst}
+use Rattle.list_lemmas.proofs.Results.{on_err_always}
 use Rattle.commands_file.specs.Calls.{shelf_view}
 use Rattle.commands_file.specs.inner.Placing.{IsPlaced, IsUnplaced}
 use Rattle.commands_file.specs.declared.calling.Placed.{Placed}
-use Rattle.commands_file.proofs.Broken.{on_err}
 use Rattle.commands_file.proofs.calling.put_sheet.Goals as goal
 
 pub returns-in_err-bytes-clause-memory : goal.returns-in_err-bytes-clause-memory
-returns-in_err-bytes-clause-memory g c = on_err c.from_residual.result (inl refl)
+returns-in_err-bytes-clause-memory g c = on_err_always c.from_residual.result (inl refl)
 
 pub returns-clause-placed : goal.returns-clause-placed
 returns-clause-placed g c =

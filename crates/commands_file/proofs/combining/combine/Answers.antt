@@ -3,7 +3,8 @@ use Rattle.std.specs.FinMap as map
 use Rattle.std.specs.List.{list_any}
 use Rattle.std.proofs.Common.{ap, rules, subst, sym, ◌∙◌}
 use Rattle.recalculation.specs.inner.Laws.{Ascends}
-use Rattle.command_desk.proofs.Edited.{if_ok, edit_acted}
+use Rattle.std.proofs.lemmas.Result.{IfOk-weaker}
+use Rattle.command_desk.proofs.Edited.{edit_acted}
 use Rattle.command_desk.specs.Acting.{HasActed}
 use Rattle.command_desk.specs.declared.ending.CommandEnd.TheVariants.{Refused}
 use Rattle.commands_file.proofs.Leaving.{leaving_acts, written_acts}
@@ -45,7 +46,7 @@ returns c =
     let ascends : Ascends (written_cells writes) =
     subst (λ (l : List Write). Ascends (written_cells l)) (sym is)
     (combined_ascend kind s.grid s.settings.pointer file) in
-    if_ok c.settled.result
+    IfOk-weaker c.settled.result _ _
     (λ end settles. written_acts kind file c.args.scene.now c.args.sheet.now _ _ _ end
     (sym inside ∙ c.one_leaves.ensures
     ∙ ap (λ (x : Place). list_any (leaves_sheet kind x) (map.entries file.cells)) c.pointer_of-pointer.ensures)

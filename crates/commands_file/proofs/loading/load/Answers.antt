@@ -1,8 +1,9 @@
 use Rattle.std.specs.Prelude.{◌≡◌, refl, List, None, Ok, Option, Some, ℕ}
 use Rattle.std.proofs.Common.{rules, subst}
-use Rattle.command_desk.proofs.Edited.{if_ok}
+use Rattle.std.proofs.lemmas.Result.{IfOk-weaker}
+use Rattle.list_lemmas.proofs.Results.{on_err_always}
 use Rattle.commands_file.specs.Calls.{gets, loaded}
-use Rattle.commands_file.proofs.Broken.{memory_stands, on_err, read_unfinished}
+use Rattle.commands_file.proofs.Broken.{memory_stands, read_unfinished}
 use Rattle.outside_world.specs.Shelf.{file_in, HasRead}
 use Rattle.wk1_file.specs.Files.{IsFile}
 use Rattle.commands_file.proofs.loading.load.Goals as goal
@@ -10,7 +11,7 @@ use Rattle.commands_file.proofs.loading.load.Goals as goal
 pub returns-in-Ok-Some-clause-loaded : goal.returns-in-Ok-Some-clause-loaded
 returns-in-Ok-Some-clause-loaded g c =
     let some : c.in-Ok-Some.field-0 ≡ Some c.in-Ok-Some.bytes = search rules in
-    if_ok c.loaded_of.result
+    IfOk-weaker c.loaded_of.result _ _
     (λ came h. record {
       reply = loaded (Some h.0);
       came_so = h.2;
@@ -27,7 +28,7 @@ returns-in-Ok-Some-clause-loaded g c =
     }) c.loaded_of.ensures
 
 pub returns-in-Ok-Some-clause-memory : goal.returns-in-Ok-Some-clause-memory
-returns-in-Ok-Some-clause-memory g c = on_err c.loaded_of.result
+returns-in-Ok-Some-clause-memory g c = on_err_always c.loaded_of.result
     (read_unfinished (gets c.args.name.now) (file_in c.args.name.now) c.args.name.now _ _ _ _ _
     c.in-Ok-Some.ensures.held c.in-Ok-Some.ensures.cause)
 

@@ -1,5 +1,6 @@
-use Rattle.command_desk.proofs.Edited.{if_ok}
-use Rattle.commands_file.proofs.Broken.{none_over, on_err}
+use Rattle.std.proofs.lemmas.Result.{IfOk-weaker}
+use Rattle.list_lemmas.proofs.Results.{on_err_always}
+use Rattle.commands_file.proofs.Broken.{none_over}
 use Rattle.commands_file.specs.Calls.{failed}
 use Rattle.commands_print.proofs.Held.{printed_holds}
 use Rattle.commands_print.proofs.Written.{alone}
@@ -14,18 +15,20 @@ returns-in-Range-clause-acted g c = rw c.in-Range.is (λ n. alone _ _ _ _ _ _ _ 
 
 pub returns-in-Header-clause-acted : goal.returns-in-Header-clause-acted
 returns-in-Header-clause-acted g c =
-    rw c.in-Header.is (if_ok c.keep_text.result (λ end acted n. alone _ _ _ _ _ _ _ (acted n)) c.keep_text.ensures)
+    rw c.in-Header.is (IfOk-weaker c.keep_text.result _ _ (λ end acted n. alone _ _ _ _ _ _ _ (acted n))
+    c.keep_text.ensures)
 
 pub returns-in-Header-clause-memory : goal.returns-in-Header-clause-memory
-returns-in-Header-clause-memory g c = rw c.in-Header.is (on_err c.keep_text.result (none_over _ failed _))
+returns-in-Header-clause-memory g c = rw c.in-Header.is (on_err_always c.keep_text.result (none_over _ failed _))
 
 pub returns-in-Footer-clause-acted : goal.returns-in-Footer-clause-acted
 returns-in-Footer-clause-acted g c =
-    rw c.in-Footer.is (if_ok c.keep_text-in-Footer.result (λ end acted n. alone _ _ _ _ _ _ _ (acted n))
+    rw c.in-Footer.is (IfOk-weaker c.keep_text-in-Footer.result _ _ (λ end acted n. alone _ _ _ _ _ _ _ (acted n))
     c.keep_text-in-Footer.ensures)
 
 pub returns-in-Footer-clause-memory : goal.returns-in-Footer-clause-memory
-returns-in-Footer-clause-memory g c = rw c.in-Footer.is (on_err c.keep_text-in-Footer.result (none_over _ failed _))
+returns-in-Footer-clause-memory g c =
+    rw c.in-Footer.is (on_err_always c.keep_text-in-Footer.result (none_over _ failed _))
 
 pub returns-in-PageLength-clause-acted : goal.returns-in-PageLength-clause-acted
 returns-in-PageLength-clause-acted g c = rw c.in-PageLength.is (λ n. alone _ _ _ _ _ _ _ (c.keep_number.ensures n))
@@ -51,5 +54,5 @@ pub returns-in-Go-clause-acted : goal.returns-in-Go-clause-acted
 returns-in-Go-clause-acted g c = rw c.in-Go.is c.print.ensures.acted
 
 pub returns-in-Go-clause-report : goal.returns-in-Go-clause-report
-returns-in-Go-clause-report g c = if_ok c.print.result
+returns-in-Go-clause-report g c = IfOk-weaker c.print.result _ _
     (λ end acted was is. printed_holds c.args.scene.now c.args.desk.now end 0 _ _ was (acted 0)) c.print.ensures.acted

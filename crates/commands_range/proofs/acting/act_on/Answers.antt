@@ -1,10 +1,10 @@
 use Rattle.std.specs.Prelude.{refl}
-use Rattle.command_desk.proofs.Edited.{if_ok}
+use Rattle.std.proofs.lemmas.Result.{IfOk-weaker}
 use Rattle.commands_range.proofs.acting.act_on.Goals as goal
 
 pub returns-in-NameDelete : goal.returns-in-NameDelete
 returns-in-NameDelete c =
-    if_ok c.delete_name.result (λ end acts. record {
+    IfOk-weaker c.delete_name.result _ _ (λ end acts. record {
       same = record { sheet = refl; scene = refl; tally = refl };
       acted = rw c.in-NameDelete.is (rw (← c.line_at.ensures) (acts c.args.work.now.tally.now.count));
     }) c.delete_name.ensures

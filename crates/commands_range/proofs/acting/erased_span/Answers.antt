@@ -1,5 +1,6 @@
 use Rattle.std.specs.Prelude.{refl}
-use Rattle.command_desk.proofs.Edited.{if_ok, edit_acted}
+use Rattle.std.proofs.lemmas.Result.{IfOk-weaker}
+use Rattle.command_desk.proofs.Edited.{edit_acted}
 use Rattle.grid_address.specs.Place.{is_within}
 use Rattle.recalculation.proofs.Filled.{has_cells, span_ascends}
 use Rattle.formula_parts.specs.Outlook.{cells_of}
@@ -9,7 +10,7 @@ use Rattle.commands_range.proofs.acting.erased_span.Goals as goal
 pub returns : goal.returns
 returns c =
     let span = c.args.span in
-    if_ok c.settled.result
+    IfOk-weaker c.settled.result _ _
     (λ end settles. record {
       same = record { sheet = refl; scene = refl; tally = refl };
       acted =

@@ -1,11 +1,11 @@
 use Rattle.std.specs.Prelude.{refl}
-use Rattle.command_desk.proofs.Edited.{if_ok}
+use Rattle.std.proofs.lemmas.Result.{IfOk-weaker}
 use Rattle.commands_range.proofs.Ended.{copy_acted}
 use Rattle.sheet_edits.specs.Spans.{target_of}
 use Rattle.commands_range.proofs.copying.copied_onto.Goals as goal
 
 pub returns : goal.returns
-returns c = if_ok c.settled.result
+returns c = IfOk-weaker c.settled.result _ _
     (λ end settles. record {
       same = record { sheet = refl; scene = refl; tally = refl };
       acted = copy_acted (target_of c.args.from c.args.to) c.args.from c.args.work.now.scene.now

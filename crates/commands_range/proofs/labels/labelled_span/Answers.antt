@@ -1,7 +1,8 @@
 use Rattle.std.specs.Prelude.{◌≡◌, refl, List}
 use Rattle.std.proofs.Common.{ap, subst, sym, ◌∙◌}
+use Rattle.std.proofs.lemmas.Result.{IfOk-weaker}
 use Rattle.recalculation.specs.inner.Laws.{Ascends}
-use Rattle.command_desk.proofs.Edited.{if_ok, edit_acted}
+use Rattle.command_desk.proofs.Edited.{edit_acted}
 use Rattle.command_desk.specs.Acting.{written, HasActed}
 use Rattle.commands_range.proofs.Relabelled.{relabelled_ascend}
 use Rattle.commands_range.specs.Commands.{relabelled}
@@ -23,7 +24,7 @@ returns c =
     c.in_ok-writes.ensures ∙ ap (relabelled c.args.prefix c.args.span) c.cells.ensures in
     let ascends : Ascends (written_cells writes) =
     subst (λ (l : List Write). Ascends (written_cells l)) (sym is) (relabelled_ascend c.args.prefix c.args.span grid) in
-    if_ok c.settled.result
+    IfOk-weaker c.settled.result _ _
     (λ end settles. record {
       same = record { sheet = refl; scene = refl; tally = refl };
       acted = subst

@@ -1,8 +1,9 @@
 use Rattle.std.specs.Prelude.{refl, ◌≡◌, List}
 use Rattle.std.proofs.Common.{ap, subst, sym, ◌∙◌}
+use Rattle.std.proofs.lemmas.Result.{IfOk-weaker}
 use Rattle.recalculation.proofs.Filled.{span_ascends}
 use Rattle.recalculation.specs.inner.Laws.{Ascends}
-use Rattle.command_desk.proofs.Edited.{if_ok, edit_acted}
+use Rattle.command_desk.proofs.Edited.{edit_acted}
 use Rattle.command_desk.specs.Acting.{written, HasActed}
 use Rattle.commands_range.proofs.Valued.{written_are}
 use Rattle.command_desk.specs.Writing.{sight_in}
@@ -27,7 +28,7 @@ returns c =
     ap (λ (l : List Write). written_cells l) is
     ∙ written_are c.args.copy.now (sight_in s) in
     let ascends : Ascends cells = span_ascends c.args.copy.now.target in
-    if_ok c.settled.result
+    IfOk-weaker c.settled.result _ _
     (λ end settles. record {
       same = record { sheet = refl; scene = refl; tally = refl };
       acted = subst

@@ -1,14 +1,15 @@
 use Rattle.std.specs.Prelude.{refl}
+use Rattle.std.proofs.lemmas.Result.{IfOk-weaker}
 use Rattle.grid_address.specs.Place.{same_place}
 use Rattle.macro_words.specs.declared.running.Change.TheVariants as change
 use Rattle.cell_maps.specs.Sets.{has}
 use Rattle.sheet_edits.specs.Spans.{written_cells}
 use Rattle.work_sheet.specs.Editing.{all_written}
-use Rattle.macro_engine.proofs.Carrying.{edit_carried, if_ok}
+use Rattle.macro_engine.proofs.Carrying.{edit_carried}
 use Rattle.macro_engine.proofs.changes.write.Goals as goal
 
 pub returns : goal.returns
-returns c = if_ok c.settled.result
+returns c = IfOk-weaker c.settled.result _ _
     (λ cell settles. edit_carried (change.Write c.args.writes.now) (written_cells c.args.writes.now)
     (has same_place (written_cells c.args.writes.now)) (λ x. refl)
     (all_written c.args.writes.now) c.args.scene.now c.args.sheet.now c.write-answer.new.self c.settled.new.sheet

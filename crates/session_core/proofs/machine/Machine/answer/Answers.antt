@@ -1,5 +1,6 @@
 use Rattle.std.proofs.Common.{◌≡◌, rules, false, sym, ◌∙◌}
-use Rattle.commands_file.proofs.Broken.{none_over, on_err}
+use Rattle.list_lemmas.proofs.Results.{on_err_always}
+use Rattle.commands_file.proofs.Broken.{none_over}
 use Rattle.macro_engine.specs.Keys.{key_step}
 use Rattle.session_core.proofs.Alone.{no_replies}
 use Rattle.session_core.proofs.Stepping.{answered_over, ends_as, stepped_over, unmarked}
@@ -34,12 +35,12 @@ returns-clause-touched g c =
 
 -- no call was made of the shelf
 pub returns-in_err-end-clause-memory : goal.returns-in_err-end-clause-memory
-returns-in_err-end-clause-memory g c = on_err _ (none_over _ no_replies _)
+returns-in_err-end-clause-memory g c = on_err_always _ (none_over _ no_replies _)
 
 -- memory ran out in what follows by the step's end
 pub returns-in_err-taken-clause-memory : goal.returns-in_err-taken-clause-memory
 returns-in_err-taken-clause-memory g c =
-    on_err _
+    on_err_always _
     (stepped_breaks (λ scene. key_step scene c.args.key) c.args.now.now (record c.args.self.now.state { end = false }) _
     c.scene-scene.result c.self.inside.engine c.answer.new.self _ c.self.inside.desk.sheet c.answer.new.sheet
     c.self.inside.tally.count c.answer.new.tally.count _ _ c.scene-scene.ensures (search rules) (search rules)

@@ -1,5 +1,6 @@
 use Rattle.std.proofs.Common.{rules, refl}
-use Rattle.commands_file.proofs.Broken.{none_over, on_err}
+use Rattle.list_lemmas.proofs.Results.{on_err_always}
+use Rattle.commands_file.proofs.Broken.{none_over}
 use Rattle.session_core.specs.Machine.{scene_at}
 use Rattle.session_core.proofs.Alone.{alone, no_replies}
 use Rattle.session_core.proofs.Failing.{failed_calls}
@@ -24,4 +25,4 @@ returns-in_ok-touched-in-Refused-clause-ok g c =
 
 -- no call was made of the shelf
 pub returns-in_err-touched-in-Refused-clause-memory : goal.returns-in_err-touched-in-Refused-clause-memory
-returns-in_err-touched-in-Refused-clause-memory g c = on_err _ (none_over _ no_replies _)
+returns-in_err-touched-in-Refused-clause-memory g c = on_err_always _ (none_over _ no_replies _)

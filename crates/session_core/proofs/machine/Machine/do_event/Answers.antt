@@ -1,5 +1,5 @@
 use Rattle.std.proofs.lemmas.Bool.{false≢true}
-use Rattle.commands_file.proofs.Broken.{on_err}
+use Rattle.list_lemmas.proofs.Results.{on_err_always}
 use Rattle.session_core.proofs.Begun.{moving_ends_none}
 use Rattle.session_core.proofs.Breaking.{event_answered}
 use Rattle.session_core.proofs.machine.Machine.do_event.Goals as goal
@@ -7,7 +7,7 @@ use Rattle.session_core.proofs.machine.Machine.do_event.Goals as goal
 -- the event's calls were made
 pub returns-in_err-end_command-clause-memory : goal.returns-in_err-end_command-clause-memory
 returns-in_err-end_command-clause-memory g c =
-    on_err _ (event_answered c.args.event c.args.now.now _ c.args.self.now c.take_event.new.self _ _
+    on_err_always _ (event_answered c.args.event c.args.now.now _ c.args.self.now c.take_event.new.self _ _
     c.in_ok-taken.ensures.ok)
 
 -- what only moves ends no command

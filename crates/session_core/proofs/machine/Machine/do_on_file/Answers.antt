@@ -1,5 +1,6 @@
 use Rattle.std.proofs.Common.{ap, rules, sym, false, None, Some, ◌∙◌}
-use Rattle.commands_file.proofs.Broken.{none_over, on_err}
+use Rattle.list_lemmas.proofs.Results.{on_err_always}
+use Rattle.commands_file.proofs.Broken.{none_over}
 use Rattle.session_core.specs.Machine.{scene_at}
 use Rattle.session_core.specs.Step.{on_file, protected_target}
 use Rattle.session_core.proofs.Alone.{alone, no_replies}
@@ -20,7 +21,7 @@ returns-in_ok-touched-in-Some-clause-ok g c =
 
 -- no call was made of the shelf
 pub returns-in_err-touched-in-Some-clause-memory : goal.returns-in_err-touched-in-Some-clause-memory
-returns-in_err-touched-in-Some-clause-memory g c = on_err _ (none_over _ no_replies _)
+returns-in_err-touched-in-Some-clause-memory g c = on_err_always _ (none_over _ no_replies _)
 
 -- the word is carried out
 pub returns-in_ok-serve-in-None-clause-ok : goal.returns-in_ok-serve-in-None-clause-ok
@@ -33,7 +34,7 @@ returns-in_ok-serve-in-None-clause-ok g c =
 -- memory ran out there
 pub returns-in_err-serve-in-None-clause-memory : goal.returns-in_err-serve-in-None-clause-memory
 returns-in_err-serve-in-None-clause-memory g c =
-    on_err _ (guarded_breaks c.args.deed c.args.now.now c.args.self.now.state _ _ None
+    on_err_always _ (guarded_breaks c.args.deed c.args.now.now c.args.self.now.state _ _ None
     (sym c.in-None.is ∙ c.protected_target.ensures
     ∙ ap (λ t. protected_target t c.args.self.now.state) c.target_of.ensures)
     c.in_err-serve-in-None.ensures.memory)

@@ -1,5 +1,6 @@
 use Rattle.std.proofs.Common.{◌≡◌, rules, sym, ◌∙◌}
-use Rattle.commands_file.proofs.Broken.{none_over, on_err}
+use Rattle.list_lemmas.proofs.Results.{on_err_always}
+use Rattle.commands_file.proofs.Broken.{none_over}
 use Rattle.macro_engine.specs.Steps.{macro_step}
 use Rattle.session_core.proofs.Alone.{no_replies}
 use Rattle.session_core.proofs.Stepping.{ends_as, stepped_over}
@@ -32,12 +33,12 @@ returns-clause-touched g c =
 
 -- no call was made of the shelf
 pub returns-in_err-end-clause-memory : goal.returns-in_err-end-clause-memory
-returns-in_err-end-clause-memory g c = on_err _ (none_over _ no_replies _)
+returns-in_err-end-clause-memory g c = on_err_always _ (none_over _ no_replies _)
 
 -- memory ran out in what follows by the step's end
 pub returns-in_err-taken-clause-memory : goal.returns-in_err-taken-clause-memory
 returns-in_err-taken-clause-memory g c =
-    on_err _ (stepped_breaks macro_step c.args.now.now c.args.self.now.state _
+    on_err_always _ (stepped_breaks macro_step c.args.now.now c.args.self.now.state _
     c.scene-scene.result c.self.inside.engine c.step.new.self _ c.self.inside.desk.sheet c.step.new.sheet
     c.self.inside.tally.count c.step.new.tally.count _ _ c.scene-scene.ensures (search rules) (search rules)
     (search rules) (search rules) c.in_ok-end.ensures.step c.in_err-taken.ensures.memory)
