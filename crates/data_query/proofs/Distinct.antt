@@ -6,27 +6,15 @@ use Rattle.std.specs.List.{filter, list_all, list_any}
 use Rattle.std.proofs.lemmas.List.{append-nil, map-append}
 use Rattle.std.proofs.lemmas.List.Folds.{list_any-append}
 use Rattle.std.proofs.lemmas.Bool.{and_parts, false≢true}
-use Rattle.std.proofs.lemmas.Bool.Decides.{Decides-int_eq}
-use Rattle.std.proofs.lemmas.Slice.Eq.{bytes_eq-Decides}
 use Rattle.std.proofs.Math.Bool.{or-true}
 use Rattle.grid_address.specs.Place.{Place}
 use Rattle.formula_tree.specs.Values.{same_value}
-use Rattle.formula_tree.specs.declared.value.Value.{Value}
-use Rattle.formula_tree.specs.declared.value.Value.TheVariants as value
+use Rattle.formula_tree.proofs.Values.{same_value_is}
 use Rattle.formula_parts.specs.Outlook.{Sight}
 use Rattle.block_writes.specs.Writing.{at}
 use Rattle.data_query.specs.Extraction.{same_record, without_repeats}
 use Rattle.data_query.specs.declared.output.OutputField.{OutputField}
 use Rattle.data_query.proofs.Records.{filter_count, row_of}
-
--- equal values are one
-same_is : (a b : Value) → same_value a b ≡ true → a ≡ b
-same_is value.Blank value.Blank same = refl
-same_is (value.Num x) (value.Num y) same = ap value.Num ((Decides-int_eq x y).0 same)
-same_is (value.Str s) (value.Str t) same = ap value.Str ((bytes_eq-Decides s t).0 same)
-same_is value.Err value.Err same = refl
-same_is value.Na value.Na same = refl
-same_is a b same = absurd (false≢true same)
 
 -- what is the same as one of two records that are the same is the same as the other
 pub alike : (sight : Sight) (fields : List OutputField) (a b x : ℕ) → same_record sight fields a b ≡ true
@@ -35,7 +23,7 @@ alike sight [] a b x same = refl
 alike sight (f ∷ fields) a b x same =
     let value = λ (row : ℕ). sight.values (at row f.field) in
     let both = and_parts (same_value (value a) (value b)) (same_record sight fields a b) same in
-    ap (λ v. same_value v (value x) && same_record sight fields a x) (same_is (value a) (value b) both.0)
+    ap (λ v. same_value v (value x) && same_record sight fields a x) (same_value_is (value a) (value b) both.0)
     ∙ ap (λ c. same_value (value b) (value x) && c) (alike sight fields a b x both.1)
 
 -- two filters, one after the other

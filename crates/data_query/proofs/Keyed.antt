@@ -1,6 +1,6 @@
 -- Records are told apart by their keys.
 use Rattle.std.proofs.Common.{◌≡◌, ℕ, List, [], ◌∷◌, ◌++◌, map, cond, refl, sym, ap, ◌∙◌}
-use Rattle.std.specs.Prelude.{◌&&◌, ◌||◌, not, Bool, true, false}
+use Rattle.std.specs.Prelude.{◌&&◌, ◌||◌, Bool, true, false}
 use Rattle.std.specs.Cmp.Lexicographic.{pointwise}
 use Rattle.std.specs.Global.{Vec}
 use Rattle.std.specs.List.{list_any}
@@ -106,11 +106,6 @@ among_equal key (k ∷ keys) =
     ap (λ b. b || list_any (λ (l : Vec ValueKey). pointwise equal key.items l.items) keys)
     (keys_alike key.items k.items)
     ∙ ap (λ b. same_values (all_keyed k.items) (all_keyed key.items) || b) (among_equal key keys)
-
--- what isn't new isn't not new
-pub twice_not : (b : Bool) → not (not b) ≡ b
-twice_not true = refl
-twice_not false = refl
 
 -- one more record is looked at, beside the keys of the records that are kept
 module _ (sight : Sight) (fields : List OutputField) (key : Vec ValueKey) (keys : List (Vec ValueKey))
