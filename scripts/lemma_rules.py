@@ -1,5 +1,5 @@
-"""The rules of proofs: a lemma is named somewhere, a public one has its line of meaning, and a line fits the page.
-`scripts/check_text` says which files break one, and with --lemmas besides which statements stand several times."""
+"""The rules of proofs: a lemma is named somewhere, its statement stands once, a public one has its line of meaning, and
+a line fits the page. `scripts/check_text` says which files break one, and with --lemmas it counts them by crate."""
 import collections
 import re
 
@@ -8,6 +8,9 @@ WORD = re.compile(r'[^\s(){},;."@«»]+')
 SIGNATURE = re.compile(r'^( *)((?:pub |abbrev |unfoldable |pattern )*)'
                        r'([^\s(){},;:.@"|=→≡×∙⊎]+)(?: \{[^}]*\})? :(?: |$)')
 FUNCTION = re.compile(r" *pub (?:const )?fn (\w+)")
+# What a proof is of: a relation, or a word that a value stands behind. A sort and a type of data have neither, and what
+# yields one of these is a function.
+PROVEN = re.compile(r"[≡≢≤<⊥⊎]|(?<![\w.])[a-z]")
 # What a goal, an invariant or a measure is called is the toolchain's choice.
 GIVEN = re.compile(r"(invariant|measure)[-_]")
 Lemma = collections.namedtuple("Lemma", "file line name is_public indent end statement")
@@ -41,8 +44,8 @@ class Proofs:
         """The statements that stand several times, each with its lemmas."""
         found = collections.defaultdict(list)
         for lemma in self.lemmas:
-            if re.search("[≡≤<→]", lemma.statement):
-                found[with_numbered_names(lemma.statement)].append(lemma)
+            if "→" in lemma.statement and PROVEN.search(target_of(lemma.statement)):
+                found[with_numbered_names(with_single_arguments(lemma.statement))].append(lemma)
         return sorted((it for it in found.values() if len(it) > 1), key=len, reverse=True)
 
     def without_meaning(self):
@@ -111,6 +114,27 @@ def paths_in(file, text):
         yield ".".join(["Rattle", file.split("/")[1] if crate == "crate" else crate, *folders]), name
 
 
+def target_of(statement):
+    """What a statement yields: the part behind its last arrow, but for those in brackets."""
+    depth = begins = 0
+    for at, sign in enumerate(statement):
+        depth += (sign in "({") - (sign in ")}")
+        if sign == "→" and depth == 0:
+            begins = at + 1
+    return statement[begins:]
+
+
+def with_single_arguments(statement):
+    """A statement with each argument in brackets of its own, whether it is given or found: which of them are is no part
+    of what is said."""
+    statement = re.sub(
+        r"[({]([^\s(){}:]+(?: [^\s(){}:]+)*) : ([^(){}]*|[^(){}]*\([^(){}]*\)[^(){}]*)[)}]",
+        lambda it: " ".join(f"({name} : {it[2]})" for name in it[1].split(" ")),
+        statement,
+    )
+    return statement.replace(") → (", ") (")
+
+
 def with_numbered_names(statement):
     """A statement with its bound variables by number, so that two that differ by these names alone are one."""
     numbers = {}
@@ -145,6 +169,10 @@ def check(texts, fault):
                          (proofs.without_meaning(), "it has no line of meaning")):
         for lemma in lemmas:
             fault(f"{lemma.file}:{lemma.line + 1}: {lemma.name}: {what}")
+    for first, *others in proofs.repeated():
+        for lemma in others:
+            where = f"{first.file}:{first.line + 1}"
+            fault(f"{lemma.file}:{lemma.line + 1}: {lemma.name}: {first.name} of {where} says the same")
     for file, number, name in unnamed_functions(texts):
         fault(f"{file}:{number}: no code names {name}")
 
