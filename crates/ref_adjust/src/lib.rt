@@ -8,4 +8,4 @@ mod moves;
 
 pub use change::{Change, cell_shifted, shifted, span_shifted};
 pub use laws::{references_follow_a_change, references_follow_a_move};
-pub use moves::{cell_moved, moved, span_moved};
+pub use moves::{cell_moved, moved, span_moved, target};

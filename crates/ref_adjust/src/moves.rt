@@ -21,8 +21,8 @@ fn carried(from: Span, to: Cell, cell: Cell) -> Cell
     }
 }
 
-// The span of the same size whose first corner is `to`.
-fn target(from: Span, to: Cell) -> Span
+/// The span of the same size as `from` whose first corner is `to`: where a moved span comes, in the sheet.
+pub fn target(from: Span, to: Cell) -> Span
     requires { FitsAt from to }
     ensures { result ≡ target from to }
 {

@@ -1,7 +1,6 @@
 // Why an edit that moves cells isn't made.
 ghost use Rattle.std.specs.Prelude.{◌≡◌, IfNone};
 ghost use Rattle.ref_adjust.specs.Lines.{IsChange};
-ghost use Rattle.ref_adjust.specs.Moves.{target, FitsAt};
 ghost use Rattle.sheet_shifts.specs.Refusals.{first_cell, fits_at, out_of_sheet, protected_in, pushed_in, refusal, AreInSheet};
 ghost use Rattle.sheet_shifts.specs.Shifts.{IsShift};
 
@@ -9,7 +8,7 @@ use crate::Shift;
 use crate::protection::{earlier, first_marked};
 use crate::pushing::pushed_by;
 use grid_address::{COLUMNS, Cell, ROWS, Span};
-use ref_adjust::Change;
+use ref_adjust::{Change, target};
 use sheet_store::{Settings, SheetFault, Store};
 
 // Whether the target of a move lies in the sheet.
@@ -19,18 +18,6 @@ fn fits_at(from: Span, to: Cell) -> bool
     let last_row = from.last.row - from.first.row + to.row;
     let last_col = u16::from(from.last.col) - u16::from(from.first.col) + u16::from(to.col);
     last_row < ROWS && last_col < COLUMNS
-}
-
-// The target.
-fn target(from: Span, to: Cell) -> Span
-    requires { FitsAt from to }
-    ensures { result ≡ target from to }
-{
-    let last = Cell {
-        row: from.last.row - from.first.row + to.row,
-        col: from.last.col - from.first.col + to.col,
-    };
-    Span { first: to, last }
 }
 
 // The first cell of the first line.
