@@ -3,7 +3,8 @@ ghost use Rattle.std.specs.Prelude.{◌≡◌, ◌<◌, ◌≤◌, [], ◌∷◌
 ghost use Rattle.grid_address.specs.Place.{same_place, Place};
 ghost use Rattle.indexmap.specs.IndexSet.{insert_key, IsUnique};
 ghost use Rattle.natural_order.specs.Machine.{fuel, walked};
-ghost use Rattle.natural_order.specs.inner.Stack.{finish, trail, walk_on, work_left, Entered, IsOnPath};
+ghost use Rattle.natural_order.specs.inner.Stack.{finish, trail, walk_on, Entered};
+ghost use Rattle.natural_order.specs.inner.Walkers.{outcome, work_of, IsWalking};
 ghost use Rattle.cell_maps.specs.Sets.{has};
 ghost use Rattle.natural_order.specs.Walk.{order, walk};
 
@@ -100,20 +101,16 @@ impl Walker {
     // Walks one cell: one that is done or on the path at once, and any other by a new frame.
     fn visit<G: Precedents>(&mut self, graph: &G, cell: Cell) -> Result<(), Memory>
         requires known { has same_place (G.all graph.now) cell ≡ true }
-        requires on { IsOnPath (G.pre graph.now) (G.all graph.now) self.old.done.keys self.old.path.keys
-            self.old.stack.items }
+        requires on { IsWalking (G.pre graph.now) (G.all graph.now) self.old }
         ensures same { OnOk result
-            (finish (G.pre graph.now) (fuel (G.all graph.now)) [] self.new.stack.items
-            (walked self.new.done self.new.circular)
+            (outcome (G.pre graph.now) (G.all graph.now) self.new
             ≡ finish (G.pre graph.now) (fuel (G.all graph.now)) [] self.old.stack.items
             (walk_on (G.pre graph.now) (fuel (G.all graph.now)) (trail [] self.old.stack.items)
             (walked self.old.done self.old.circular) cell)) }
-        ensures on { OnOk result
-            (IsOnPath (G.pre graph.now) (G.all graph.now) self.new.done.keys self.new.path.keys self.new.stack.items) }
+        ensures on { OnOk result (IsWalking (G.pre graph.now) (G.all graph.now) self.new) }
         ensures less { OnOk result
-            (work_left (G.pre graph.now) (G.all graph.now) self.new.done.keys self.new.path.keys self.new.stack.items
-            ≤ work_left (G.pre graph.now) (G.all graph.now) self.old.done.keys self.old.path.keys
-            self.old.stack.items) }
+            (work_of (G.pre graph.now) (G.all graph.now) self.new
+            ≤ work_of (G.pre graph.now) (G.all graph.now) self.old) }
     {
         if is_in(&self.done, cell) {
             return Ok(());
@@ -129,19 +126,14 @@ impl Walker {
     // One step: the last frame's next cell is walked, or that frame is closed.
     fn step<G: Precedents>(&mut self, graph: &G) -> Result<(), Memory>
         requires begun { 0 < length self.old.stack.items }
-        requires on { IsOnPath (G.pre graph.now) (G.all graph.now) self.old.done.keys self.old.path.keys
-            self.old.stack.items }
+        requires on { IsWalking (G.pre graph.now) (G.all graph.now) self.old }
         ensures same { OnOk result
-            (finish (G.pre graph.now) (fuel (G.all graph.now)) [] self.new.stack.items
-            (walked self.new.done self.new.circular)
-            ≡ finish (G.pre graph.now) (fuel (G.all graph.now)) [] self.old.stack.items
-            (walked self.old.done self.old.circular)) }
-        ensures on { OnOk result
-            (IsOnPath (G.pre graph.now) (G.all graph.now) self.new.done.keys self.new.path.keys self.new.stack.items) }
+            (outcome (G.pre graph.now) (G.all graph.now) self.new
+            ≡ outcome (G.pre graph.now) (G.all graph.now) self.old) }
+        ensures on { OnOk result (IsWalking (G.pre graph.now) (G.all graph.now) self.new) }
         ensures less { OnOk result
-            (work_left (G.pre graph.now) (G.all graph.now) self.new.done.keys self.new.path.keys self.new.stack.items
-            < work_left (G.pre graph.now) (G.all graph.now) self.old.done.keys self.old.path.keys
-            self.old.stack.items) }
+            (work_of (G.pre graph.now) (G.all graph.now) self.new
+            < work_of (G.pre graph.now) (G.all graph.now) self.old) }
     {
         let Some(mut frame) = self.stack.pop() else {
             return Ok(());
