@@ -1,7 +1,7 @@
 // From a text to its parts.
-ghost use Rattle.std.specs.Prelude.{◌≡◌, ◌≤◌, ◌<◌, true, IfOk, IfErr, OnOk, ◌++◌, ◌∷◌, [], drop, get_or, length};
+ghost use Rattle.std.specs.Prelude.{◌≡◌, ◌≤◌, ◌<◌, true, IfOk, IfErr, OnOk, ◌++◌, ◌∷◌, [], drop, length};
 ghost use Rattle.formula_text.specs.inner.Fine.{are_fine, is_fine_kind};
-ghost use Rattle.formula_text.specs.Lexed.{found_by, lexed, part_found};
+ghost use Rattle.formula_text.specs.Lexed.{lexed, part_found};
 
 use crate::ParseFault;
 use crate::lexeme::{Found, Lexeme};
@@ -13,39 +13,8 @@ use lics_text::MAX_LEN;
 use range_names::Names;
 use std::alloc::Global;
 
-// The part that stands first, where it is no number.
-#[tactic(auto, unfolding(crate::specs::Lexed::found_by))]
-fn found_by(
-    alloc: Global,
-    bytes: &[u8],
-    at: usize,
-    cell: Cell,
-    names: &Names,
-) -> Result<Found, ParseFault>
-    requires some { 0 < length bytes.now }
-    requires short { length bytes.now ≤ MAX_LEN }
-    ensures found { IfOk result (λ f. f ≡ found_by names.now cell at bytes.now (get_or bytes.now 0 0)) }
-    ensures fine { IfOk result (λ f. is_fine_kind f.kind ≡ true) }
-    ensures low { IfOk result (λ f. 0 < f.len) }
-    ensures high { IfOk result (λ f. f.len ≤ length bytes.now) }
-    ensures err { IfErr result (λ f. f ≡ ParseFault.Memory) }
-{
-    match bytes[0] {
-        b'"' => text_found(alloc, bytes, at),
-        b'@' => Ok(function_found(bytes, at)),
-        b'#' => Ok(hash_found(bytes, at)),
-        first => {
-            if is_word_byte(first) {
-                Ok(word_found(bytes, at, cell, names))
-            } else {
-                Ok(sign_found(bytes, at))
-            }
-        }
-    }
-}
-
 // The part that stands first, which begins at a place of the text.
-#[tactic(auto, unfolding(crate::specs::Lexed::part_found))]
+#[tactic(auto, unfolding(crate::specs::Lexed::part_found, crate::specs::Lexed::found_by))]
 fn part_found(
     alloc: Global,
     bytes: &[u8],
@@ -62,9 +31,19 @@ fn part_found(
     ensures err { IfErr result (λ f. f ≡ ParseFault.Memory) }
 {
     if 0 < number_len(bytes) {
-        Ok(number_found(bytes, at))
-    } else {
-        found_by(alloc, bytes, at, cell, names)
+        return Ok(number_found(bytes, at));
+    }
+    match bytes[0] {
+        b'"' => text_found(alloc, bytes, at),
+        b'@' => Ok(function_found(bytes, at)),
+        b'#' => Ok(hash_found(bytes, at)),
+        first => {
+            if is_word_byte(first) {
+                Ok(word_found(bytes, at, cell, names))
+            } else {
+                Ok(sign_found(bytes, at))
+            }
+        }
     }
 }
 
