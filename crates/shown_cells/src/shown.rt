@@ -56,25 +56,6 @@ fn value_in<'a>(value: &ValueRef<'a>, format: Format, width: u8) -> Shown<'a>
     }
 }
 
-// What a formula shows: its text in the format Text, and else its value.
-fn formula_in<'a>(
-    formula: &'a Formula,
-    value: &ValueRef<'a>,
-    names: &'a Names,
-    cell: Cell,
-    format: Format,
-    width: u8,
-) -> Shown<'a>
-    ensures { shown_text result width
-        ≡ spec.formula_text (printed names.now cell formula.now) (seen_value value.now) format.0 width }
-{
-    if format.is_shown_as(Format::TEXT) {
-        Shown::Fits(Fitting::Printed(formula, cell, names))
-    } else {
-        value_in(value, format, width)
-    }
-}
-
 /// What a content and its value show in a width from 0 to 255, in the format that stands for the cell. A blank content
 /// shows nothing, and so does any content in the format Hidden; a formula shows its value, and in the format Text
 /// itself, as it is printed with the sheet's names. (Release 2 manual.)
@@ -97,7 +78,14 @@ pub fn shown_content<'a>(
         ContentRef::Blank => Shown::RunsOn(b""),
         ContentRef::Number(_) => value_in(value, format, width),
         ContentRef::Label(prefix, text) => label_in(*prefix, text.bytes(), width),
-        ContentRef::Formula(formula) => formula_in(formula, value, names, cell, format, width),
+        ContentRef::Formula(formula) => {
+            let is_text = format.is_shown_as(Format::TEXT);
+            if is_text {
+                Shown::Fits(Fitting::Printed(formula, cell, names))
+            } else {
+                value_in(value, format, width)
+            }
+        }
     }
 }
 
