@@ -1,2 +1,2 @@
-//! What proofs cite of lists and the library lacks: no code stands here.
+//! What proofs cite and the library lacks, of lists, Booleans, options and results: no code stands here.
 #![tactic(auto)]
