@@ -3,7 +3,7 @@ use Rattle.std.proofs.Common.{◌≡◌, ℕ, zero, suc, ◌+◌, ◌-◌, ◌/�
 use Rattle.std.proofs.Common.{Option, Some, None, refl, ap, sym, subst, ◌∙◌, arith, inl, inr}
 use Rattle.std.specs.Prelude.{codes, get_or, if◌then◌else◌, is_some, length, nat_eq, nat_lt, not, slice_get, take}
 use Rattle.std.proofs.lemmas.Bool.{and_parts, cases_lt, eqb-true, false_from_ne_true, false≢true, lt-ltb, ltb-true}
-use Rattle.std.proofs.lemmas.Bool.{not-true, true≢false}
+use Rattle.std.proofs.lemmas.Bool.{not-true, or_parts, true≢false}
 use Rattle.std.proofs.lemmas.List.{nil_from_length}
 use Rattle.std.proofs.lemmas.Option.{slice_get_past}
 use Rattle.session_rooms.specs.declared.panel.Mode.{Mode}
@@ -28,7 +28,7 @@ use Rattle.session_rooms.specs.declared.rooms.TypingMode.{TypingMode}
 use Rattle.session_rooms.specs.declared.rooms.TypingMode.TheVariants.{Label, Value, Edit}
 use Rattle.room_keys.specs.typing.Room.{told_mode}
 use Rattle.work_sheet.specs.Seen.{Sheet}
-use Rattle.session_core.specs.Frozen.{frozen_after, frozen_by, held_at, line_over}
+use Rattle.session_core.specs.Frozen.{frozen_after, frozen_by, held_at, lacks, lacks_area, line_over, switches_of}
 use Rattle.session_core.specs.inner.Glances.{glance_of, is_plain, lacks_menu, marks_of, plain_mode, told_plainly}
 use Rattle.session_core.specs.inner.Glances.{IsKept, KeepsBelow, KeepsLetters, KeepsPointer, KeepsRow, KeepsTyped}
 use Rattle.session_core.specs.inner.Glances.{Stays}
@@ -262,18 +262,17 @@ module _ (s t : State) (x : Touched) (touch : Touches x s.corner.row (sheet_of s
       ∙ sym (foot_is t is.1.0))
 
   -- a line that is painted the same is shown the same, where none is held
-  module _ (x_on : Switches) (after : t.frozen ≡ frozen_after (screen s) x_on s.frozen) where
+  module _ (x_on : Switches) (before : List (List ℕ)) (after : t.frozen ≡ frozen_after before x_on s.frozen)
+      (has : lacks x_on s.frozen ≡ false) where
     -- a line of an area, by what is held of it
     area_line : (on : Bool) (held : Option (List (List ℕ))) (n : ℕ) (P : Type 0) → n < 25 → held_at s.frozen n ≡ held
-        → held_at t.frozen n ≡ frozen_by on (screen s) held →
-        (P → line_of s n ≡ line_of t n) → Stays (is_some held) (is_some (frozen_by on (screen s) held)) P
+        → held_at t.frozen n ≡ frozen_by on before held → lacks_area on held ≡ false →
+        (P → line_of s n ≡ line_of t n) → Stays (is_some held) (is_some (frozen_by on before held)) P
         → get_or (screen s) n [] ≡ get_or (screen t) n []
-    area_line on held n P inside is next same stays =
-        let was : get_or (screen s) n [] ≡ line_over held (painted_screen s) n =
+    area_line on held n P inside is next none same stays =
         shown_at s.frozen (painted_screen s) n inside
-        ∙ ap (λ (h : Option (List (List ℕ))). line_over h (painted_screen s) n) is in
-        was
-        ∙ area_kept on held (screen s) (painted_screen s) (painted_screen t) n P (sym was)
+        ∙ ap (λ (h : Option (List (List ℕ))). line_over h (painted_screen s) n) is
+        ∙ area_kept on held before (painted_screen s) (painted_screen t) n P none
         (λ p. painted_at s n inside ∙ same p ∙ sym (painted_at t n inside)) stays
         ∙ ap (λ (h : Option (List (List ℕ))). line_over h (painted_screen t) n) (sym next)
         ∙ sym (shown_at t.frozen (painted_screen t) n inside)
@@ -283,7 +282,8 @@ module _ (s t : State) (x : Touched) (touch : Touches x s.corner.row (sheet_of s
         (P → line_of s n ≡ line_of t n) → Stays (is_some s.frozen.panel) (is_some t.frozen.panel) P
         → get_or (screen s) n [] ≡ get_or (screen t) n []
     panel_line n P inside is next same stays =
-        area_line x_on.panel s.frozen.panel n P inside is (next ∙ ap (λ (f : FrozenAreas). f.panel) after) same
+        area_line x_on.panel s.frozen.panel n P inside is (next ∙ ap (λ (f : FrozenAreas). f.panel) after)
+        (or_parts (lacks_area x_on.panel s.frozen.panel) (lacks_area x_on.windows s.frozen.windows) has).0 same
         (subst (λ (f : FrozenAreas). Stays (is_some s.frozen.panel) (is_some f.panel) P) after stays)
 
     windows_line : (n : ℕ) (P : Type 0) → n < 25 → held_at s.frozen n ≡ s.frozen.windows
@@ -291,7 +291,8 @@ module _ (s t : State) (x : Touched) (touch : Touches x s.corner.row (sheet_of s
         (P → line_of s n ≡ line_of t n) → Stays (is_some s.frozen.windows) (is_some t.frozen.windows) P
         → get_or (screen s) n [] ≡ get_or (screen t) n []
     windows_line n P inside is next same stays =
-        area_line x_on.windows s.frozen.windows n P inside is (next ∙ ap (λ (f : FrozenAreas). f.windows) after) same
+        area_line x_on.windows s.frozen.windows n P inside is (next ∙ ap (λ (f : FrozenAreas). f.windows) after)
+        (or_parts (lacks_area x_on.panel s.frozen.panel) (lacks_area x_on.windows s.frozen.windows) has).1 same
         (subst (λ (f : FrozenAreas). Stays (is_some s.frozen.windows) (is_some f.windows) P) after stays)
 
     -- the last line never stands still
@@ -342,23 +343,24 @@ module _ (s t : State) (x : Touched) (touch : Touches x s.corner.row (sheet_of s
     ]
 
 -- The same, by what a step touched before the screen followed it.
-pub lines_told : (s mid t : State) (x : Touched) (a b : Glance) (lines : List Bool) (x_on : Switches)
-    → Touches x s.corner.row (sheet_of s) (sheet_of mid) → sheet_of t ≡ sheet_of mid →
-    t.frozen ≡ frozen_after (screen s) x_on s.frozen → a ≡ glance_of s → b ≡ glance_of t →
+lines_told : (s mid t : State) (x : Touched) (a b : Glance) (lines : List Bool) (x_on : Switches)
+    (shown : List (List ℕ)) → Touches x s.corner.row (sheet_of s) (sheet_of mid) → sheet_of t ≡ sheet_of mid →
+    t.frozen ≡ frozen_after shown x_on s.frozen → lacks x_on s.frozen ≡ false → a ≡ glance_of s → b ≡ glance_of t →
     ((n : ℕ) → slice_get lines n ≡ Some false → IsKept x a b n) → Unchanged lines (screen s) (screen t)
-lines_told s mid t x a b lines x_on touch followed frozen before after told =
+lines_told s mid t x a b lines x_on shown touch followed frozen has before after told =
     lines_kept s t x (subst (λ (u : Sheet). Touches x s.corner.row (sheet_of s) u) (sym followed) touch) x_on
-    frozen lines
+    shown frozen has lines
     (λ n out. subst (λ (g : Glance). IsKept x (glance_of s) g n) after
     (subst (λ (g : Glance). IsKept x g b n) before (told n out)))
 
--- The same, where a session keeps the screen, and the step left what stood still before the screen followed it.
-pub lines_followed : (s mid t : State) (shown : List (List ℕ)) (x : Touched) (a b : Glance) (lines : List Bool)
-    (x_on : Switches) → shown ≡ screen s → Touches x s.corner.row (sheet_of s) (sheet_of mid)
-    → sheet_of t ≡ sheet_of mid → t.frozen ≡ frozen_after shown x_on mid.frozen → mid.frozen ≡ s.frozen
-    → a ≡ glance_of s → b ≡ glance_of t → ((n : ℕ) → slice_get lines n ≡ Some false → IsKept x a b n)
-    → Unchanged lines (screen s) (screen t)
-lines_followed s mid t shown x a b lines x_on kept touch followed frozen held before after told =
-    lines_told s mid t x a b lines x_on touch followed
-    (frozen ∙ ap (λ (l : List (List ℕ)). frozen_after l x_on mid.frozen) kept
-    ∙ ap (λ (f : FrozenAreas). frozen_after (screen s) x_on f) held) before after told
+-- The same, where the step left what stood still before the screen followed it, and no area stands still newly.
+pub lines_followed : (s mid t : State) (x : Touched) (a b : Glance) (lines : List Bool) → mid.frozen ≡ s.frozen
+    → Touches x s.corner.row (sheet_of s) (sheet_of mid) → sheet_of t ≡ sheet_of mid →
+    t.frozen ≡ frozen_after (screen mid) (switches_of mid.running) mid.frozen →
+    lacks (switches_of mid.running) mid.frozen ≡ false → a ≡ glance_of s → b ≡ glance_of t →
+    ((n : ℕ) → slice_get lines n ≡ Some false → IsKept x a b n) → Unchanged lines (screen s) (screen t)
+lines_followed s mid t x a b lines held touch followed frozen has before after told =
+    let x_on : Switches = switches_of mid.running in
+    lines_told s mid t x a b lines x_on (screen mid) touch followed
+    (frozen ∙ ap (λ (f : FrozenAreas). frozen_after (screen mid) x_on f) held)
+    (ap (lacks x_on) (sym held) ∙ has) before after told

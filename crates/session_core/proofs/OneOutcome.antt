@@ -28,7 +28,6 @@ use Rattle.session_core.specs.Keeping.{begun_for, command_ended, is_at_end, Tell
 use Rattle.session_core.specs.Machine.{afresh, and_further, followed_by, pointer_of, scene_at, sheet_of, with_channel}
 use Rattle.session_core.specs.Machine.{with_macro, Outcome, Replies, State}
 use Rattle.session_core.specs.Pressing.{turn_of}
-use Rattle.session_core.specs.Screen.{screen}
 use Rattle.session_core.specs.Step.{by_waiting_macro, behind_word, by_step, by_word, come_to, event_taken, framed}
 use Rattle.session_core.specs.Step.{given, on_file, pressed_key, protected_target, seen_from, served_as, step}
 use Rattle.session_core.specs.Step.{stepped, by_key, typed_into, StepTells}
@@ -190,12 +189,12 @@ ended_one false p q s is tells other = not_over p s is ∙ sym (not_over q s is)
 
 -- a step, behind the event and the end of its command
 abbrev finished_step : Moment → State → Bool → Outcome → Outcome
-finished_step now s changed o = and_further (and_further o (command_ended changed)) (framed (screen s) now)
+finished_step now s changed o = and_further (and_further o (command_ended changed)) (framed now)
 
 steps_one : (now : Moment) (s : State) (o : Outcome) (p q : Bool) → TellsChange p o.state → TellsChange q o.state →
     finished_step now s p o ≡ finished_step now s q o
 steps_one now s o p q tells other =
-    ap (λ (t : State). and_further (and_further o (λ u. t)) (framed (screen s) now))
+    ap (λ (t : State). and_further (and_further o (λ u. t)) (framed now))
     (ended_one (is_at_end o.state) p q o.state refl tells other)
 
 -- a step, and it leaves the same files

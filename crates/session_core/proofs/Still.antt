@@ -9,7 +9,7 @@ use Rattle.std.proofs.lemmas.List.Elements.{All-map}
 use Rattle.std.proofs.lemmas.List.FromFn.{get_or-map-range_with_len, length-map-range_with_len}
 use Rattle.std.proofs.lemmas.Option.{slice_get-get_or}
 use Rattle.screen_show.specs.Screen.{put_in_line, put_in_screen, IsPrinted, IsScreen}
-use Rattle.session_core.specs.Frozen.{frozen_by, held_at, line_over, with_frozen}
+use Rattle.session_core.specs.Frozen.{frozen_by, held_at, lacks_area, line_over, with_frozen}
 use Rattle.session_core.specs.inner.Still.{ArePrinted}
 use Rattle.session_core.specs.inner.Glances.{Stays}
 use Rattle.session_core.specs.Machine.{FrozenAreas}
@@ -74,15 +74,22 @@ frozen_printed f lines panel windows printed =
     by : (n : ℕ) → All (λ b. 32 ≤ b) (line_over (held_at f n) lines n)
     by n = over_printed (held_at f n) lines n (held (nat_lt n 3) (nat_lt n 24)) printed
 
--- a line stands still as it did before a step or was shown, or is painted the same
+-- a line stands still as it did before a step, or is painted the same
 pub area_kept : (on : Bool) (held : Option (List (List ℕ))) (before old new : List (List ℕ)) (n : ℕ) (P : Type 0)
-    → line_over held old n ≡ get_or before n [] →
+    → lacks_area on held ≡ false →
     (P → get_or old n [] ≡ get_or new n []) → Stays (is_some held) (is_some (frozen_by on before held)) P
     → line_over held old n ≡ line_over (frozen_by on before held) new n
-area_kept true None before old new n P was same stays = same stays
-area_kept true (Some screen) before old new n P was same stays = absurd stays
-area_kept false None before old new n P was same stays = was
-area_kept false (Some screen) before old new n P was same stays = refl
+area_kept true None before old new n P has same stays = same stays
+area_kept true (Some screen) before old new n P has same stays = absurd stays
+area_kept false None before old new n P has same stays = absurd (true≢false has)
+area_kept false (Some screen) before old new n P has same stays = refl
+
+-- one that is off stays held, where it is
+pub let_stay : (on : Bool) (before : List (List ℕ)) (held : Option (List (List ℕ))) → on ≡ false
+    → lacks_area on held ≡ false → held ≡ frozen_by on before held
+let_stay true before held h has = absurd (true≢false h)
+let_stay false before None h has = absurd (true≢false has)
+let_stay false before (Some screen) h has = refl
 
 -- an area that is on isn't held
 pub hold_gone : (on : Bool) (before : List (List ℕ)) (held : Option (List (List ℕ))) → on ≡ true

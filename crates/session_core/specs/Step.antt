@@ -1,5 +1,5 @@
 -- One step of the session.
-use Rattle.std.specs.Prelude.{◌≡◌, ℕ, Bool, true, false, List, Option, None, Some, if◌then◌else◌}
+use Rattle.std.specs.Prelude.{◌≡◌, Bool, true, false, Option, None, Some, if◌then◌else◌}
 use Rattle.commands_file.specs.Calls.{HasBrokenOver, HaveAnswered, ShelfView}
 use Rattle.desk_errors.specs.declared.error.CommandError.TheVariants as error
 use Rattle.formula_parts.specs.declared.look.Scene.{Scene}
@@ -115,13 +115,13 @@ run_on replies scene s = stepped (macro_step scene s.running (sheet_of s)) repli
 abbrev pub timed : Moment → State → State
 timed now s = record s { day = now.day; second = now.second }
 
--- the pointer's cell is shown, at this moment; what is switched off stands still as this screen before the step shows
--- it
-abbrev pub framed : List (List ℕ) → Moment → State → State
-framed before now s = timed now (record s {
-  corner = corner_for (sheet_of s) s.corner;
-  frozen = frozen_after before (switches_of s.running) s.frozen;
-})
+-- what is switched off stands still as the session shows it, unless it does already
+abbrev pub frozen_as_shown : State → State
+frozen_as_shown s = record s { frozen = frozen_after (screen s) (switches_of s.running) s.frozen }
+
+-- the pointer's cell is shown, at this moment; what is switched off stands still as the session shows it before that
+abbrev pub framed : Moment → State → State
+framed now s = timed now (record (frozen_as_shown s) { corner = corner_for (sheet_of s) s.corner })
 
 -- a key is pressed, or the macro that runs makes its next step
 abbrev pub event_taken : Event → Replies → Scene → State → Outcome
@@ -144,7 +144,7 @@ StepTells event now replies changed s = EventTells event now replies changed (af
 -- follows it.
 abbrev pub step : Event → Moment → Replies → Bool → State → Outcome
 step event now replies changed s =
-    and_further (event_done event replies changed (scene_at s now) (afresh s)) (framed (screen s) now)
+    and_further (event_done event replies changed (scene_at s now) (afresh s)) (framed now)
 
 -- before the first step the sheet is recalculated, at this moment
 abbrev pub loaded : Moment → State → Outcome

@@ -1,5 +1,5 @@
 // What of the screen stands still.
-ghost use Rattle.std.specs.Prelude.{◌≡◌, option_copied};
+ghost use Rattle.std.specs.Prelude.{◌≡◌, false, option_copied, List, ℕ};
 ghost use Rattle.screen_show.specs.Screen.{IsPrinted};
 ghost use Rattle.session_core.specs.Machine.{unfrozen};
 ghost use Rattle.session_core.specs.Frozen as spec;
@@ -27,6 +27,25 @@ impl Model for Frozen {
     ghost view = { λ f. record { panel = f.panel; windows = f.windows } };
 
     ghost invariant = { λ f. ArePrinted f.panel × ArePrinted f.windows };
+}
+
+// Whether an area is switched off, and isn't held yet.
+fn lacks_area(on: bool, held: &Option<Screen>) -> bool
+    ensures { result ≡ spec.lacks_area on held.now }
+{
+    !on && held.is_none()
+}
+
+// An area that is on isn't held.
+#[tactic(auto, using(crate::proofs::Still::hold_gone, crate::proofs::Still::let_stay))]
+fn let_go(on: bool, held: &mut Option<Screen>)
+    requires { spec.lacks_area on held.old ≡ false }
+    ensures held { (before : List (List ℕ)) → held.new ≡ spec.frozen_by on before held.old }
+    ensures printed { ArePrinted held.old → ArePrinted held.new }
+{
+    if on {
+        *held = None;
+    }
 }
 
 // An area that is switched off is held as this screen shows it, unless it is held already; one that is on isn't held.
@@ -83,6 +102,22 @@ impl Frozen {
         ensures { ArePrinted self.now.panel × ArePrinted self.now.windows }
     {
         let _panel = &self.panel;
+    }
+
+    /// Whether an area is switched off that doesn't stand still yet.
+    pub fn lacks(&self, switches: Switches) -> bool
+        ensures { result ≡ spec.lacks switches self.now }
+    {
+        lacks_area(switches.panel, &self.panel) || lacks_area(switches.windows, &self.windows)
+    }
+
+    /// What is switched off stands still already; what is on doesn't any more.
+    pub fn let_go(&mut self, switches: Switches)
+        requires { spec.lacks switches self.old ≡ false }
+        ensures { (before : List (List ℕ)) → self.new ≡ spec.frozen_after before switches self.old }
+    {
+        let_go(switches.panel, &mut self.panel);
+        let_go(switches.windows, &mut self.windows);
     }
 
     /// What is switched off stands still as this screen shows it, unless it does already; what is on doesn't.

@@ -1,5 +1,5 @@
 // Which lines of the screen may be others after a step.
-ghost use Rattle.std.specs.Prelude.{◌≡◌, ◌≤◌, ◌<◌, ℕ, false, true, is_some, slice_get, Some};
+ghost use Rattle.std.specs.Prelude.{◌≡◌, ◌≤◌, ◌<◌, ℕ, false, true, is_some, replicate, slice_get, Some};
 ghost use Rattle.session_rooms.specs.declared.panel.Mode.TheVariants.{Ready};
 ghost use Rattle.session_core.specs.inner.Glances.{lacks_menu, IsKept, KeepsBelow, KeepsRow, Stays};
 
@@ -155,9 +155,8 @@ fn row_lines(touched: Touched, before: &Glance, after: &Glance) -> LineSet
     }
 }
 
-/// The lines that may be others than before, by what a step may have touched of the sheet and what the lines hang on
-/// before and after it.
-pub fn changed_lines(touched: Touched, before: &Glance, after: &Glance) -> LineSet
+// The lines that may be others than before, where no area stands still newly.
+fn lines_beside_kept(touched: Touched, before: &Glance, after: &Glance) -> LineSet
     ensures { (n : ℕ) → slice_get result n ≡ Some false → IsKept touched before.now after.now n }
 {
     let was = before.still;
@@ -177,4 +176,17 @@ pub fn changed_lines(touched: Touched, before: &Glance, after: &Glance) -> LineS
     insert_unless(letters, 3, &mut lines);
     insert_unless(keeps_foot(before, after), FOOT, &mut lines);
     lines
+}
+
+/// The lines that may be others than before, by what a step may have touched of the sheet and what the lines hang on
+/// before and after it: all of them where an area stands still newly.
+pub fn changed_lines(freezes: bool, touched: Touched, before: &Glance, after: &Glance) -> LineSet
+    ensures all { freezes ≡ true → result ≡ replicate 25 true }
+    ensures kept { freezes ≡ false →
+        (n : ℕ) → slice_get result n ≡ Some false → IsKept touched before.now after.now n }
+{
+    if freezes {
+        return LineSet::all();
+    }
+    lines_beside_kept(touched, before, after)
 }

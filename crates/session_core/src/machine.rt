@@ -4,22 +4,21 @@ ghost use Rattle.command_desk.specs.Desks.{of_desk};
 ghost use Rattle.commands_file.specs.Calls.{shelf_view};
 ghost use Rattle.entry_line.specs.Line.{placed};
 ghost use Rattle.macro_engine.specs.Keys.{broken_off};
-ghost use Rattle.screen_show.specs.Screen.{IsPrinted};
 ghost use Rattle.session_core.specs.Carrying.{acted, asked, carried, entered, failed, faulting, finished, going, left_by};
 ghost use Rattle.session_core.specs.Carrying.{is_pointer_protected, looking, recalculated, started, told};
 ghost use Rattle.session_core.specs.inner.Settling.{settling, writing};
-ghost use Rattle.session_core.specs.Frozen.{switches_of};
 ghost use Rattle.sheet_undo.specs.Histories.{no_history};
 ghost use Rattle.session_core.specs.Machine.{afresh, begun_with, in_room, pointer_of, pointing_at, scene_at, sheet_of};
 ghost use Rattle.session_core.specs.Machine.{wants_key, with_macro};
 ghost use Rattle.session_core.specs.inner.Leading.{BreaksOver, Leads, LeadsBy, LeadsOver};
 ghost use Rattle.session_core.specs.Moving.{IsMoved, OnlyMoves, OnlyMovesBy, OnlyMovesByKey};
 ghost use Rattle.session_core.specs.Moving.{OnlyMovesByPress, OnlyMovesGiven};
-ghost use Rattle.session_core.specs.Step.{by_waiting_macro, come_to, event_taken, framed, given, is_key};
+ghost use Rattle.session_core.specs.Step.{by_waiting_macro, come_to, event_taken, given, is_key};
 ghost use Rattle.session_core.specs.Step.{loaded, pressed_key, by_key};
 ghost use Rattle.session_core.specs.inner.Touches.{touches_row, HasTouched, Settles};
 ghost use Rattle.work_sheet.specs.Did.{work_of};
 
+mod following;
 mod painting;
 mod refusing;
 mod text_files;
@@ -48,14 +47,13 @@ use key_words::{Key, Letter};
 use lics_text::{Line, Memory, Text};
 use macro_engine::{Engine, StepEnd, macro_named};
 use macro_text::MacroFault;
-use macro_words::{ALL_ON, Switches};
 use menu_tree::{Action, back};
 use outside_world::Shelf;
 use recalculation::recalculation_is_cut;
 use room_keys::menu::menu_or_ready;
 use room_keys::prompt::{WhatFollows, opening};
-use screen_layout::{columns_shown, corner_for};
-use screen_show::{LineSet, Screen};
+use screen_layout::columns_shown;
+use screen_show::LineSet;
 use serial_date::Moment;
 use session_rooms::{AnsweredCommand, Answering, PromptRoom, Room, Turn, TypingMode, TypingRoom};
 use sheet_store::{Settings, SheetFault};
@@ -755,28 +753,5 @@ impl Machine {
         ensures work { self.new.work ≡ self.old.work }
     {
         self.refusal = Refusal::Nothing;
-    }
-
-    // What the macro that runs has switched on.
-    fn switches(&self) -> Switches
-        ensures { result ≡ switches_of self.now.state.running }
-    {
-        match self.engine.running() {
-            Some(running) => running.switches,
-            None => ALL_ON,
-        }
-    }
-
-    /// The screen follows the pointer, at this moment; what is switched off stands still as this screen shows it, which
-    /// was shown before the step.
-    pub fn follow(&mut self, now: &Moment, before: &Screen)
-        requires { IsPrinted before.now }
-        ensures state { self.new.state ≡ framed before.now now.now self.old.state }
-        ensures work { self.new.work ≡ self.old.work }
-    {
-        let switches = self.switches();
-        self.frozen.follow(switches, before);
-        self.corner = corner_for(&self.desk.sheet, self.corner);
-        self.moment = *now;
     }
 }

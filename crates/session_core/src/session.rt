@@ -4,7 +4,7 @@ ghost use Rattle.std.specs.Option.{unwrap_or};
 ghost use Rattle.command_desk.specs.Desks.{of_desk};
 ghost use Rattle.commands_file.specs.Calls.{shelf_view};
 ghost use Rattle.screen_show.specs.Changes.{Unchanged};
-ghost use Rattle.screen_show.specs.Screen.{IsScreen, IsPrinted};
+ghost use Rattle.screen_show.specs.Screen.{IsPrinted};
 ghost use Rattle.session_core.specs.Machine.{begun, sheet_of, wants_key, Follows};
 ghost use Rattle.session_core.specs.Moving.{IsMoved, OnlyMovesBy};
 ghost use Rattle.session_core.specs.Refusing.{joined};
@@ -25,12 +25,11 @@ use screen_show::{LineSet, Screen};
 use serial_date::Moment;
 use std::marker::Model;
 
-/// A session: the worksheet, the pointer, and what is being typed, pointed at or asked for. It keeps its screen, and
-/// paints anew what a step may change.
+/// A session: the worksheet, the pointer, and what is being typed, pointed at or asked for. It keeps no screen: who
+/// shows one has it painted, where a step may have changed it.
 #[derive(Drop)]
 pub struct Session {
     machine: Machine,
-    shown: Screen,
     // Whether memory ran out in a step. A spent session makes no step.
     spent: bool,
 }
@@ -39,17 +38,13 @@ impl Model for Session {
     ghost use Rattle.formula_tree.specs.contracts.formula.Formula as formula;
     ghost use Rattle.std.specs.Coded.{codes};
     ghost use Rattle.std.specs.FinMap as map;
-    ghost use Rattle.std.specs.Prelude.{◌≡◌, false};
     ghost use Rattle.session_core.specs.Machine.{SessionView};
-    ghost use Rattle.session_core.specs.inner.Showing.{HasShown};
 
     ghost Value = { SessionView };
 
     ghost coded = { Prim.hlevel (codes, map.code, formula.the_row.coded) };
 
     ghost view = { λ a. record { state = a.machine.state; work = a.machine.work; spent = a.spent } };
-
-    ghost invariant = { λ a. a.spent ≡ false → HasShown a.machine.state a.shown };
 }
 
 impl Session {
@@ -58,11 +53,8 @@ impl Session {
         requires { desk.sheet.history ≡ no_history }
         ensures { result ≡ begun (of_desk desk) (work_of desk.sheet 0) }
     {
-        let machine = Machine::new(desk);
-        let shown = machine.paint();
         Session {
-            machine,
-            shown,
+            machine: Machine::new(desk),
             spent: false,
         }
     }
@@ -74,10 +66,7 @@ impl Session {
         ensures memory { OnErr result (self.new.spent ≡ true) }
     {
         match self.machine.load(now) {
-            Ok(()) => {
-                self.shown = self.machine.paint();
-                Ok(())
-            }
+            Ok(()) => Ok(()),
             Err(Memory) => {
                 self.spent = true;
                 Err(Memory)
@@ -145,10 +134,9 @@ impl Session {
         match self.machine.do_event(event, now, shelf) {
             Ok(taken) => {
                 let stepped = Stepped::of(taken.ends);
-                self.machine.follow(now, &self.shown);
+                let freezes = self.machine.follow(now);
                 let after = self.machine.glance();
-                *changed = changed_lines(taken.touched, &before, &after);
-                self.machine.paint_lines(changed, &mut self.shown);
+                *changed = changed_lines(freezes, taken.touched, &before, &after);
                 stepped
             }
             Err(Memory) => {
@@ -191,15 +179,18 @@ impl Session {
         self.machine.left_in()
     }
 
-    /// The screen of a session that isn't spent. None of its bytes is below 32.
-    pub fn shown(&self) -> &Screen
-        requires { self.now.spent ≡ false }
-        ensures screen { result.now ≡ screen self.now.state }
-        ensures shape { IsScreen (screen self.now.state) }
-        ensures printed { IsPrinted (screen self.now.state) }
+    /// Paints the lines of a set over a screen that has the others in common with the session's, which it becomes.
+    pub fn paint_lines(&self, lines: &LineSet, shown: &mut Screen)
+        requires { Unchanged lines.now shown.old (screen self.now.state) }
+        ensures { shown.new ≡ screen self.now.state }
     {
-        // It is called for its clause.
-        self.shown.is_whole();
-        &self.shown
+        self.machine.paint_lines(lines, shown);
+    }
+
+    /// No byte of the session's screen is below 32. It does nothing, and is called for its clause.
+    pub fn is_printed(&self)
+        ensures { IsPrinted (screen self.now.state) }
+    {
+        self.machine.is_printed();
     }
 }

@@ -1,16 +1,8 @@
--- When the machine shows what a macro waits for, and what it has shown.
-use Rattle.std.specs.Prelude.{◌≡◌, ℕ, List, Bool, true, false, Option, None, Some}
-use Rattle.screen_show.specs.Screen.{IsPrinted}
-use Rattle.session_core.specs.Machine.{State}
-use Rattle.session_core.specs.Screen.{screen}
+-- When the machine shows what a macro waits for.
+use Rattle.std.specs.Prelude.{Bool, true, false, Option, None, Some}
 use Rattle.macro_words.specs.declared.running.Running.{Running}
 use Rattle.macro_words.specs.declared.waiting.Waiting.{Waiting}
 use Rattle.macro_words.specs.declared.waiting.Waiting.TheVariants as waiting
-
--- what a session keeps is the screen that its state shows; no byte of it is below a space
-pub record HasShown (s : State) (lines : List (List ℕ)) : Type 0 where
-  pub shown : lines ≡ screen s
-  pub printed : IsPrinted (screen s)
 
 -- a line or a menu
 abbrev pub is_shown : Waiting → Bool

@@ -3,9 +3,9 @@ ghost use Rattle.std.specs.Prelude.{◌≡◌, ◌≤◌, IfSome, [], get_or, sl
 ghost use Rattle.room_keys.specs.menu.Room as menu;
 ghost use Rattle.screen_layout.specs.Views.{viewed};
 ghost use Rattle.screen_show.specs.Changes.{Unchanged};
+ghost use Rattle.screen_show.specs.Screen.{IsPrinted};
 ghost use Rattle.session_core.specs.inner.Glances.{glance_of, is_plain, marks_of, minute_of, told_plainly};
 ghost use Rattle.session_core.specs.Screen.{panel_of, screen, shown_panel};
-ghost use Rattle.session_core.specs.inner.Showing.{HasShown};
 
 use super::Machine;
 use crate::glance::{Foot, Glance, Marks, Minute};
@@ -208,13 +208,12 @@ impl Machine {
         }
     }
 
-    /// Paints the lines of a set over a screen that has the others in common with the session's.
+    /// Paints the lines of a set over a screen that has the others in common with the session's, which it becomes.
     pub fn paint_lines(&self, lines: &LineSet, shown: &mut Screen)
         requires { Unchanged lines.now shown.old (screen self.now.state) }
-        ensures { HasShown self.now.state shown.new }
+        ensures { shown.new ≡ screen self.now.state }
     {
-        // Both are called for their clauses.
-        self.frozen.is_printed();
+        // It is called for its clause.
         shown.is_whole();
         if lines.next_from(0) > 24 {
             return;
@@ -222,10 +221,20 @@ impl Machine {
         self.paint_some(lines, shown);
     }
 
+    /// No byte of the screen is below a space. It does nothing, and is called for its clause.
+    pub fn is_printed(&self)
+        ensures { IsPrinted (screen self.now.state) }
+    {
+        self.frozen.is_printed();
+    }
+
     /// The screen, painted from nothing.
     pub fn paint(&self) -> Screen
-        ensures { HasShown self.now.state result }
+        ensures shown { result ≡ screen self.now.state }
+        ensures printed { IsPrinted (screen self.now.state) }
     {
+        // It is called for its clause.
+        self.is_printed();
         let mut shown = Screen::empty();
         self.paint_lines(&LineSet::all(), &mut shown);
         shown

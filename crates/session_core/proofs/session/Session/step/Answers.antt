@@ -1,7 +1,6 @@
-use Rattle.std.proofs.Common.{◌≡◌, rules, false, List, ℕ, ap, sym, subst, ◌∙◌}
+use Rattle.std.proofs.Common.{◌≡◌, ℕ, true, false, List, Bool, replicate, refl, ap, sym, subst, ◌∙◌}
+use Rattle.screen_show.proofs.LineSets.{all_may_differ}
 use Rattle.screen_show.specs.Changes.{Unchanged}
-use Rattle.screen_show.specs.Screen.{IsPrinted}
-use Rattle.session_core.specs.Frozen.{switches_of}
 use Rattle.session_core.specs.Machine.{afresh, scene_at, sheet_of, SessionView, State}
 use Rattle.session_core.specs.inner.Touches.{HasTouched}
 use Rattle.session_core.specs.Moving.{IsMoved, OnlyMovesBy}
@@ -13,44 +12,19 @@ use Rattle.session_core.proofs.Kept.{lines_followed}
 use Rattle.session_core.proofs.Breaking.{event_breaks}
 use Rattle.session_core.proofs.session.Session.step.Goals as goal
 
--- a line that isn't painted hangs on nothing that was touched, or stands still
-pub paint_lines-requires : goal.paint_lines-requires
-paint_lines-requires g c =
-    let s : State = c.self.inside.machine.state in
-    let mid : State = c.do_event.new.self.state in
-    let t : State = c.follow.new.self.state in
-    let fresh : c.self.inside.spent ≡ false = search rules in
-    let kept = c.self.invariant fresh in
-    let led = c.in-Ok.ensures.ok in
-    let b : State = c.begin.new.self.state in
-    let held : mid.frozen ≡ s.frozen =
-    ap (λ (u : State). u.frozen) led.leads.state
-    ∙ by_done c.args.event led.replies led.changed (scene_at b c.args.now.now) b
-    ∙ ap (λ (u : State). u.frozen) c.begin.ensures.state in
-    let touch : HasTouched c.in-Ok.taken.touched s mid =
-    subst (λ (u : State). HasTouched c.in-Ok.taken.touched u mid) c.begin.ensures.state c.in-Ok.ensures.touched in
-    let same : Unchanged c.changed_lines.result (screen s) (screen t) =
-    lines_followed s mid t c.self.inside.shown c.in-Ok.taken.touched c.glance-before.result c.glance-after.result
-    c.changed_lines.result (switches_of mid.running)
-    kept.shown touch (ap (λ (u : State). sheet_of u) c.follow.ensures.state)
-    (ap (λ (u : State). u.frozen) c.follow.ensures.state) held
-    c.glance-before.ensures c.glance-after.ensures c.changed_lines.ensures in
-    subst (λ (shown : List (List ℕ)). Unchanged c.changed_lines.result shown (screen t)) (sym kept.shown) same
+-- the lines that aren't told are the same: where an area stands still newly, all are told
+lines_same : (freezes : Bool) (lines : List Bool) (s t : State) → (freezes ≡ true → lines ≡ replicate 25 true)
+    → (freezes ≡ false → Unchanged lines (screen s) (screen t)) → Unchanged lines (screen s) (screen t)
+lines_same true lines s t all kept =
+    subst (λ (ls : List Bool). Unchanged ls (screen s) (screen t)) (sym (all refl))
+    (all_may_differ (screen s) (screen t))
+lines_same false lines s t all kept = kept refl
 
--- no byte of the screen before is below a space
-pub follow-requires : goal.follow-requires
-follow-requires g c =
-    let fresh : c.self.inside.spent ≡ false = search rules in
-    subst IsPrinted (sym (c.self.invariant fresh).shown) (c.self.invariant fresh).printed
-
--- the lines that aren't painted are the same
 pub returns-in-Ok-clause-lines : goal.returns-in-Ok-clause-lines
 returns-in-Ok-clause-lines g c is_fresh =
     let s : State = c.self.inside.machine.state in
     let mid : State = c.do_event.new.self.state in
-    let t : State = c.follow.new.self.state in
-    let fresh : c.self.inside.spent ≡ false = search rules in
-    let kept = c.self.invariant fresh in
+    let t : State = c.follow-freezes.new.self.state in
     let led = c.in-Ok.ensures.ok in
     let b : State = c.begin.new.self.state in
     let held : mid.frozen ≡ s.frozen =
@@ -60,11 +34,11 @@ returns-in-Ok-clause-lines g c is_fresh =
     let touch : HasTouched c.in-Ok.taken.touched s mid =
     subst (λ (u : State). HasTouched c.in-Ok.taken.touched u mid) c.begin.ensures.state c.in-Ok.ensures.touched in
     let same : Unchanged c.changed_lines.result (screen s) (screen t) =
-    lines_followed s mid t c.self.inside.shown c.in-Ok.taken.touched c.glance-before.result c.glance-after.result
-    c.changed_lines.result (switches_of mid.running)
-    kept.shown touch (ap (λ (u : State). sheet_of u) c.follow.ensures.state)
-    (ap (λ (u : State). u.frozen) c.follow.ensures.state) held
-    c.glance-before.ensures c.glance-after.ensures c.changed_lines.ensures in
+    lines_same c.follow-freezes.result c.changed_lines.result s t c.changed_lines.ensures.all
+    (λ none. lines_followed s mid t c.in-Ok.taken.touched c.glance-before.result c.glance-after.result
+    c.changed_lines.result held touch (ap (λ (u : State). sheet_of u) c.follow-freezes.ensures.state)
+    (ap (λ (u : State). u.frozen) c.follow-freezes.ensures.state) (sym c.follow-freezes.ensures.newly ∙ none)
+    c.glance-before.ensures c.glance-after.ensures (c.changed_lines.ensures.kept none)) in
     subst (λ (shown : List (List ℕ)). Unchanged c.changed_lines.result shown (screen t))
     (ap (λ (r : SessionView). screen r.state) c.self.view_is) same
 
@@ -79,7 +53,7 @@ returns-in-Ok-clause-sheet g c only =
     c.in-Ok.ensures.sheet (subst (λ (u : State). OnlyMovesBy c.args.event u) (sym from)
     (moves_afresh c.args.event c.args.self.now.state only)) in (
       moved.0,
-      ap (λ (u : State). sheet_of u) c.follow.ensures.state ∙ moved.1
+      ap (λ (u : State). sheet_of u) c.follow-freezes.ensures.state ∙ moved.1
           ∙ ap (λ (u : State). with_pointer moved.0 (sheet_of u)) from,
     )
 

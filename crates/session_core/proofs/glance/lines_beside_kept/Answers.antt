@@ -1,7 +1,7 @@
 use Rattle.std.proofs.Common.{◌≡◌, false, true, ℕ, Bool, List, Some, subst}
 use Rattle.std.specs.Prelude.{slice_get}
 use Rattle.session_core.specs.inner.Glances.{Stays}
-use Rattle.session_core.proofs.glance.changed_lines.Goals as goal
+use Rattle.session_core.proofs.glance.lines_beside_kept.Goals as goal
 
 -- a line that is out of a set, by its number
 at_line : (lines : List Bool) (n line : ℕ) → n ≡ line → slice_get lines n ≡ Some false
