@@ -17,7 +17,6 @@ use Rattle.session_core.specs.Carrying.{carried, undone_to}
 use Rattle.session_core.specs.Keeping.{begun_for, command_ended}
 use Rattle.session_core.specs.Machine.{afresh, is_running, quiet, scene_at, sheet_of, Outcome, State}
 use Rattle.session_core.specs.Pressing.{turn_of}
-use Rattle.session_core.specs.Screen.{screen}
 use Rattle.session_core.specs.Standing.{is_at_rest, is_ready}
 use Rattle.session_core.specs.Step.{by_key, by_waiting_macro, event_taken, framed, typed_into}
 use Rattle.session_core.specs.Undoing.{GoesForward, Rests}
@@ -69,7 +68,7 @@ last_kept s x b kept g fit forward rest differs =
     (λ alike. differs (subst (IsAlike b) (sym (sheet_same s x)) alike)) (went_by s x [] b kept g fit forward)
 
 on_frame : (s t u : State) (b : Sheet) (kept : List Sheet) (x : Step) → t ≡ u → Goes b kept u →
-    Goes b kept (framed (screen s) x.moment t)
+    Goes b kept (framed x.moment t)
 on_frame s t u b kept x e g =
     let here : Goes b kept t = subst (Goes b kept) (sym e) g in
     record { stays = here.stays; from = here.from }
@@ -184,8 +183,8 @@ undo_back s x b kept rests is there =
     let none : (behind s x).history.begun ≡ None = ap (λ (o : Outcome). o.state.history.begun) u in
     let same : command_ended x.changed (behind s x) ≡ behind s x =
     not_over x.changed (behind s x) (none_at_end (behind s x) none) in
-    let now : (outcome s x).state ≡ framed (screen s) x.moment back.state =
-    ap (λ (t : State). framed (screen s) x.moment t) (same ∙ ap (λ (o : Outcome). o.state) u) in
+    let now : (outcome s x).state ≡ framed x.moment back.state =
+    ap (λ (t : State). framed x.moment t) (same ∙ ap (λ (o : Outcome). o.state) u) in
     record {
       desk = ap (λ (t : State). t.desk) now;
       channel = ap (λ (t : State). t.channel) now;

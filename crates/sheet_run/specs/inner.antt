@@ -6,5 +6,6 @@ pub mod KeyFeed
 pub mod Lent
 pub mod OptionAnswers
 pub mod Passing
+pub mod Sending
 pub mod Telling
 pub mod Working

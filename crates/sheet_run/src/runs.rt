@@ -9,7 +9,7 @@ ghost use Rattle.sheet_run.specs.declared.options.Start.TheVariants as given;
 ghost use Rattle.sheet_run.specs.Status.{IsRun, RunsWith, Surroundings};
 
 use crate::Words;
-use crate::displays::{Work, keep_kind, work_on_all};
+use crate::displays::{Work, keep_kind, sending_to, work_on_all};
 use crate::drive::{Ending, drive};
 use crate::notes::{tell, tell_memory, tell_refused, tell_unread};
 use crate::opening::{NotBegun, NotRead, begin, load};
@@ -45,9 +45,10 @@ fn refused_text(words: &Words, refused: Refused) -> &[u8]
 /// once, and that sheet, or a fresh one, is recalculated; then the steps follow.
 /// Before each step, where the session wants a key, bytes are read until a key is there or the keys end; where it wants
 /// none, the step is of a macro's unit. Then the limit is tested, then the clock is read, the step is made and its
-/// screen is sent to each display in order. A display whose call failed moves to the end of `failed`, and the others go
-/// on. Behind a step that asks to quit no byte more is taken. At the end each display that is left is closed. With 1,
-/// 2, 6 and 9 none is closed, and with 1, 2 and 6 the clock isn't read.
+/// screen is sent to each display in order. Where the displays show the last screen alone, and none tells what it
+/// shows, that one is sent behind the last step, and no other. A display whose call failed moves to the end of
+/// `failed`, and the others go on. Behind a step that asks to quit no byte more is taken. At the end each display that
+/// is left is closed. With 1, 2, 6 and 9 none is closed, and with 1, 2 and 6 the clock isn't read.
 ///
 /// | Status | Comes | Note |
 /// |---|---|---|
@@ -138,7 +139,8 @@ fn run_with<K: Keys, S: Shelf, C: Clock, N: Notes>(
         return tell_memory(notes);
     };
     let bounds = options.bounds();
-    let ending = drive(bounds, keys, outside, &mut session);
+    let sending = sending_to(options.kind(), outside.displays);
+    let ending = drive(bounds, sending, keys, outside, &mut session);
     if let Ending::NoMemory = ending {
         return tell_memory(notes);
     }

@@ -1,4 +1,6 @@
-use Rattle.std.proofs.Common.{map, refl, ap, ◌∙◌}
+use Rattle.std.proofs.Common.{◌≡◌, false, map, refl, ap, sym, ◌∙◌, arith, Result, Ok, Err, OnOk}
+use Rattle.std.specs.Result.{is_err}
+use Rattle.std.proofs.lemmas.Bool.{true≢false}
 use Rattle.sheet_run.specs.Status.{no_room, no_session}
 use Rattle.sheet_run.proofs.Endings.{broken_run, by_lengths, finish, leaves_unless, loaded_so, nine, only_a_file}
 use Rattle.sheet_run.proofs.Endings.{opened_is, ran_out, same_failed, unread_run}
@@ -43,6 +45,17 @@ returns-in_default-clause-ran g c =
     (opened_is c.args.options c.kind.result begun.start read.0 _ _ _ _ _ _ _ _ _ _ c.kind.ensures
     c.keep_kind.ensures.kept (ap (map _) c.reserve.ensures.items) begun.named begun.answered read.1)
     c.tell_memory-in_default.ensures.tried)
+
+-- the displays that are left are no more than there were
+pub drive-ending-requires-clause-room : goal.drive-ending-requires-clause-room
+drive-ending-requires-clause-room g c =
+    let no_error : is_err c.reserve.result ≡ false = sym c.is_err.ensures.value ∙ c.if-is_err.false in
+    let room = when_ok c.reserve.result _ no_error c.reserve.ensures.ok in
+    omega (arith, room, c.len.ensures, c.keep_kind.ensures.fewer)
+  where
+    when_ok : {T E : Type 0} (r : Result T E) (P : Type 0) → is_err r ≡ false → OnOk r P → P
+    when_ok (Ok t) P e h = h
+    when_ok (Err f) P e h = absurd (true≢false e)
 
 pub returns-in-NoMemory-clause-ran : goal.returns-in-NoMemory-clause-ran
 returns-in-NoMemory-clause-ran g c =
