@@ -16,6 +16,7 @@ pub enum Held<T> {
 
 impl<T> Held<T> {
     // Its item, if it has one.
+    #[inline(always)]
     pub(crate) fn item_mut(&mut self) -> Option<&mut T>
         ensures* writes_back { sem 𝓛 (lends_item T.row self.entry result) }
         ensures value { option_copied_mut result ≡ item_in self.old }

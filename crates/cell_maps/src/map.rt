@@ -39,6 +39,7 @@ impl<T> Model for CellMap<T> {
 }
 
 // Where a cell is held, if it has a number.
+#[inline(always)]
 pub(crate) fn index_of(table: &PlaceTable, cell: Cell) -> Option<usize>
     ensures none { IfNone result (number_at table.now cell ≡ 0) }
     ensures some { IfSome result (λ i. number_at table.now cell ≡ suc i) }
@@ -84,7 +85,15 @@ impl<T> CellMap<T> {
         }
     }
 
+    /// Makes room for so many cells more, as far as there is memory. The map stays as it was.
+    pub fn reserve(&mut self, more: usize) -> Result<(), AllocError>
+        ensures { self.new ≡ self.old }
+    {
+        self.held.reserve(more)
+    }
+
     /// The item of a cell.
+    #[inline(always)]
     pub fn get(&self, cell: Cell) -> Option<&T>
         ensures { option_copied result ≡ map.get self.now cell }
     {
@@ -128,6 +137,7 @@ impl<T> CellMap<T> {
     }
 
     /// The item of a cell, to be changed in place.
+    #[inline(always)]
     pub fn get_mut(&mut self, cell: Cell) -> Option<&mut T>
         ensures* writes_back { sem 𝓛 (lends_get T.row self.entry cell result) }
         ensures value { option_copied_mut result ≡ map.get self.old cell }

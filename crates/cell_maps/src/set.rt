@@ -37,6 +37,7 @@ impl Model for CellSet {
 }
 
 // Where a cell stands in the order, if its number is above those that are gone.
+#[inline(always)]
 fn place_in_order(table: &PlaceTable, gone: u32, cell: Cell) -> Option<usize>
     ensures none { IfNone result (number_at (above gone table.now) cell ≡ 0) }
     ensures some { IfSome result (λ i. number_at (above gone table.now) cell ≡ suc i) }
@@ -117,7 +118,15 @@ impl CellSet {
         self.cells.as_slice()
     }
 
+    /// Makes room for so many cells more, as far as there is memory. The set stays as it was.
+    pub fn reserve(&mut self, more: usize) -> Result<(), AllocError>
+        ensures { self.new.keys ≡ self.old.keys }
+    {
+        self.cells.reserve(more)
+    }
+
     /// Whether a cell is in the set.
+    #[inline(always)]
     pub fn contains(&self, cell: Cell) -> bool
         ensures { result ≡ has same_place self.now.keys cell }
     {

@@ -46,6 +46,7 @@ impl Model for PlaceTable {
 }
 
 // The page of a cell.
+#[inline(always)]
 fn page_of(cell: Cell) -> usize
     ensures { result ≡ page_of cell }
 {
@@ -53,6 +54,7 @@ fn page_of(cell: Cell) -> usize
 }
 
 // The place of a cell in its page.
+#[inline(always)]
 fn place_of(cell: Cell) -> usize
     ensures place { result ≡ place_of cell }
     ensures below { result < 1024 }
@@ -61,6 +63,7 @@ fn place_of(cell: Cell) -> usize
 }
 
 // Where the number of a cell stands among those of all pages, where its page is the given one of them.
+#[inline(always)]
 fn index_in(head: u16, cell: Cell) -> usize
     requires { 0 < head }
     ensures index { result ≡ (head - 1) * 1024 + place_of cell }
@@ -105,6 +108,7 @@ impl PlaceTable {
     }
 
     // Which one of the pages with room a cell's page is, 0 where it has none.
+    #[inline(always)]
     fn head_of(&self, cell: Cell) -> u16
         ensures { result ≡ head_of self.now cell }
     {
@@ -121,6 +125,7 @@ impl PlaceTable {
     }
 
     /// The number of a cell.
+    #[inline(always)]
     pub fn number_at(&self, cell: Cell) -> u32
         ensures { result ≡ number_at self.now cell }
     {
