@@ -35,6 +35,9 @@ pub fn double_bits(value: Fixed) -> u64
     to_double_bits(value)
 }
 
+/// The room in bytes that a code is given at first: few codes take more.
+const CODE_ROOM: usize = 32;
+
 // A whole number of at most 32767.
 fn is_short(number: Fixed) -> bool
     ensures { result ≡ is_short number }
@@ -225,6 +228,7 @@ fn put_trees(args: &[Expr], at: Cell, into: &mut Vec<u8>) -> Result<(), Memory>
 pub fn write_code(formula: &Formula, at: Cell, into: &mut Vec<u8>) -> Result<(), Memory>
     ensures { OnOk result (into.new.items ≡ into.old.items ++ code_of formula.now at) }
 {
+    into.reserve(CODE_ROOM)?;
     put_tree(formula.expr(), at, into)?;
     put_byte(opcodes::FINISH, into)
 }
