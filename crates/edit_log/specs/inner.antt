@@ -1,3 +1,4 @@
 -- How the code keeps its books; no definition beside this folder speaks of it.
 pub mod Had
+pub mod Runs
 pub mod States

@@ -3,6 +3,7 @@
 
 mod change;
 mod log;
+mod runs;
 
 pub use change::{Change, make_all};
 pub use log::EditLog;

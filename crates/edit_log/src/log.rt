@@ -3,9 +3,11 @@ ghost use Rattle.std.specs.Prelude.{◌≡◌, ◌++◌, ◌∷◌, [], true, fa
 ghost use Rattle.std.specs.Bool.{Decides};
 ghost use Rattle.grid_address.specs.Place.{same_place, Place};
 ghost use Rattle.cell_maps.specs.Sets.{has};
-ghost use Rattle.edit_log.specs.Changes.{all_changed, is_noted, AreOnce};
+ghost use Rattle.edit_log.specs.Changes.{all_changed, cells_of, is_noted, AreOnce};
+ghost use Rattle.edit_log.specs.inner.Runs.{AreListed};
 
 use crate::Change;
+use crate::runs::{is_run, list_all, note_run};
 use cell_maps::CellSet;
 use grid_address::Cell;
 use lics_text::Memory;
@@ -18,17 +20,17 @@ use std::mem::replace;
 #[derive(Drop)]
 pub struct EditLog {
     changes: Vec<Change>,
-    // The cells that are noted.
+    // The cells of the first changes. Those of a run come in where another cell is noted.
     cells: CellSet,
 }
 
 impl Model for EditLog {
     ghost use Rattle.formula_tree.specs.contracts.formula.Formula as formula;
     ghost use Rattle.std.specs.Coded.{codes};
-    ghost use Rattle.std.specs.Prelude.{◌≡◌, List, Option};
+    ghost use Rattle.std.specs.Prelude.{List, Option};
     ghost use Rattle.grid_address.specs.Place.{Place};
     ghost use Rattle.sheet_store.specs.State.{CellState};
-    ghost use Rattle.edit_log.specs.Changes.{cells_of};
+    ghost use Rattle.edit_log.specs.inner.Runs.{AreListed};
 
     ghost Value = { List (Place × Option CellState) };
 
@@ -36,7 +38,30 @@ impl Model for EditLog {
 
     ghost view = { λ l. l.changes.items };
 
-    ghost invariant = { λ l. l.cells.keys ≡ cells_of l.changes.items };
+    ghost invariant = { λ l. AreListed l.cells.keys l.changes.items };
+}
+
+// Adds what a cell had that isn't noted. Nothing is added where there is no memory.
+fn add(changes: &mut Vec<Change>, cells: &mut CellSet, change: Change) -> Result<(), Memory>
+    requires listed { cells.old.keys ≡ cells_of changes.old.items }
+    requires fresh { is_noted changes.old.items change.0 ≡ false }
+    ensures ok { OnOk result (changes.new.items ≡ changes.old.items ++ change ∷ []) }
+    ensures err { OnErr result (changes.new.items ≡ changes.old.items) }
+    ensures listed { AreListed cells.new.keys changes.new.items }
+{
+    let count = cells.len();
+    cells.insert(change.cell())?;
+    match changes.push(change) {
+        Ok(()) => {
+            // `len` is called for its clause that no cell is in the set twice, here and below.
+            let _ = cells.len();
+            Ok(())
+        }
+        Err(_) => {
+            cells.truncate(count);
+            Err(Memory)
+        }
+    }
 }
 
 impl EditLog {
@@ -62,8 +87,6 @@ impl EditLog {
         ensures changes { result.now ≡ self.now }
         ensures once { AreOnce self.now }
     {
-        // `len` is called for its clause that no cell is in the set twice.
-        let _ = self.cells.len();
         self.changes.as_slice()
     }
 
@@ -74,28 +97,12 @@ impl EditLog {
         ensures more { (c : Place) → is_noted self.old c ≡ true → is_noted self.new c ≡ true }
         ensures noted { OnOk result (is_noted self.new cell ≡ true) }
     {
+        list_all(&mut self.cells, self.changes.as_slice())?;
         if self.cells.contains(cell) {
             return Ok(());
         }
         let change = Change::at(store, cell)?;
-        self.add(change)
-    }
-
-    // Adds what a cell had that isn't noted. Nothing is added where there is no memory.
-    fn add(&mut self, change: Change) -> Result<(), Memory>
-        requires { is_noted self.old change.0 ≡ false }
-        ensures ok { OnOk result (self.new ≡ self.old ++ change ∷ []) }
-        ensures err { OnErr result (self.new ≡ self.old) }
-    {
-        let count = self.cells.len();
-        self.cells.insert(change.cell())?;
-        match self.changes.push(change) {
-            Ok(()) => Ok(()),
-            Err(_) => {
-                self.cells.truncate(count);
-                Err(Memory)
-            }
-        }
+        add(&mut self.changes, &mut self.cells, change)
     }
 
     /// Notes the states that cells have in a store, but for those that are noted. What stood before in the store stays
@@ -104,6 +111,9 @@ impl EditLog {
         ensures before { all_changed store.now.cells self.new ≡ all_changed store.now.cells self.old }
         ensures noted { OnOk result ((c : Place) → has same_place cells.now c ≡ true → is_noted self.new c ≡ true) }
     {
+        if self.changes.is_empty() && is_run(cells) {
+            return note_run(&mut self.changes, store, cells);
+        }
         for cell in cells {
             self.note(store, *cell)?;
         }

@@ -1,0 +1,63 @@
+// Runs of cells, whose states are noted without a look for each among those that are noted.
+ghost use Rattle.std.specs.Prelude.{◌≡◌, ◌<◌, [], true, OnOk};
+ghost use Rattle.std.specs.List.{IsDistinct};
+ghost use Rattle.grid_address.specs.Place.{same_place};
+ghost use Rattle.edit_log.specs.Changes.{all_changed, cells_of, AreOnce};
+ghost use Rattle.edit_log.specs.inner.Runs.{rank, AreListed};
+
+use crate::Change;
+use cell_maps::CellSet;
+use grid_address::Cell;
+use lics_text::Memory;
+use sheet_store::Store;
+
+// Where a cell stands among all of the sheet, in row order.
+fn rank(cell: Cell) -> u32
+    ensures rank { result ≡ rank cell }
+    ensures below { result < 16777216 }
+{
+    u32::from(cell.row) * 256 + u32::from(cell.col)
+}
+
+/// Whether the cells come in row order, so that none comes twice.
+pub fn is_run(cells: &[Cell]) -> bool
+    ensures { result ≡ true → IsDistinct same_place cells.now }
+{
+    let mut least = 0;
+    for cell in cells {
+        let rank = rank(*cell);
+        if rank < least {
+            return false;
+        }
+        least = rank + 1;
+    }
+    true
+}
+
+/// Notes the states that cells have in a store. None is noted before.
+pub fn note_run(changes: &mut Vec<Change>, store: &Store, cells: &[Cell]) -> Result<(), Memory>
+    requires none { changes.old.items ≡ [] }
+    requires once { IsDistinct same_place cells.now }
+    ensures before { all_changed store.now.cells changes.new.items ≡ store.now.cells }
+    ensures once { AreOnce changes.new.items }
+    ensures noted { OnOk result (cells_of changes.new.items ≡ cells.now) }
+{
+    changes.reserve(cells.len())?;
+    for cell in cells {
+        let change = Change::at(store, *cell)?;
+        changes.push(change)?;
+    }
+    Ok(())
+}
+
+/// Puts the cells of all changes into the set, which has those of the first ones.
+pub fn list_all(cells: &mut CellSet, changes: &[Change]) -> Result<(), Memory>
+    requires { AreListed cells.old.keys changes.now }
+    ensures listed { AreListed cells.new.keys changes.now }
+    ensures all { OnOk result (cells.new.keys ≡ cells_of changes.now) }
+{
+    for place in cells.len()..changes.len() {
+        cells.insert(changes[place].cell())?;
+    }
+    Ok(())
+}
