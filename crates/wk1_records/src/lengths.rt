@@ -1,4 +1,4 @@
-// The lengths of the bodies of a cell's records in bytes (worksheet file format).
+// The lengths of the bodies of a cell's records in bytes, and what stands where in them (worksheet file format).
 
 /// Of a blank cell: the format byte and the place.
 pub const BLANK_LENGTH: u16 = 5;
@@ -17,3 +17,12 @@ pub const FORMULA_LENGTH: u16 = 15;
 
 /// Of the text of a formula's value without the text itself: 00 stands at its end.
 pub const STR_LENGTH: u16 = 6;
+
+/// How many bytes a head takes, the format byte and the place: what a cell holds begins behind them.
+pub const HEAD: usize = BLANK_LENGTH as usize;
+
+/// Where the length of a formula's code stands: behind the head and the eight bytes of its value.
+pub const CODE_LENGTH: usize = 13;
+
+/// Where a formula's code begins.
+pub const CODE: usize = FORMULA_LENGTH as usize;

@@ -5,13 +5,14 @@ ghost use Rattle.wk1_records.specs.Answers.{Gives};
 ghost use Rattle.wk1_records.specs.Kinds.{has_head, least_length};
 ghost use Rattle.wk1_records.specs.Meanings.{cell_of, is_inside, meaning_by, said};
 
+use crate::lengths::{CODE, CODE_LENGTH, HEAD};
 use crate::name_said::{hidden_in, name_in};
 use crate::order::order_of;
 use crate::said::{
     blank_in, cell_at, column_width, formula_in, integer_in, label_in, number_in, prefix_of,
     text_in, window,
 };
-use crate::{Entry, ReadCodes, RecordKind, Wk1Fault};
+use crate::{Entry, INTEGER_LENGTH, NUMBER_LENGTH, ReadCodes, RecordKind, Wk1Fault};
 use grid_address::Cell;
 use std::alloc::Global;
 use wk1_formula::short_at;
@@ -33,9 +34,9 @@ fn has_head(kind: RecordKind) -> bool
 
 // Whether the body of a formula is long enough for the code that it states.
 fn has_code(body: &[u8]) -> bool
-    ensures { result ≡ not (nat_lt (length body.now) (15 + short_at 13 body.now)) }
+    ensures { result ≡ not (nat_lt (length body.now) (CODE + short_at CODE_LENGTH body.now)) }
 {
-    body.len() >= 15 && body.len() - 15 >= usize::from(short_at(body, 13))
+    body.len() >= CODE && body.len() - CODE >= usize::from(short_at(body, CODE_LENGTH))
 }
 
 // Whether a body has the least length of its type.
@@ -51,10 +52,10 @@ fn is_long(kind: RecordKind, body: &[u8]) -> bool
         | RecordKind::LabelFormat => body.len() >= 1,
         RecordKind::Bof => body.len() >= 2,
         RecordKind::ColumnWidth => body.len() >= 3,
-        RecordKind::Blank | RecordKind::Label | RecordKind::Str => body.len() >= 5,
-        RecordKind::Integer => body.len() >= 7,
+        RecordKind::Blank | RecordKind::Label | RecordKind::Str => body.len() >= HEAD,
+        RecordKind::Integer => body.len() >= INTEGER_LENGTH as usize,
         RecordKind::Range | RecordKind::Window => body.len() >= 8,
-        RecordKind::Number => body.len() >= 13,
+        RecordKind::Number => body.len() >= NUMBER_LENGTH as usize,
         RecordKind::Formula => has_code(body),
         RecordKind::Name => body.len() >= 24,
         RecordKind::HiddenColumns => body.len() >= 32,

@@ -14,7 +14,8 @@ ghost use Rattle.wk1_records.specs.Answers.{Gives};
 ghost use Rattle.wk1_records.specs.Meanings.{byte_at, cell_of, code_in, double_at, formula_state, constant, global_prefix, is_inside, is_span, number_state, stored_value, is_width, label_of, label_state, numbered, place_at, pointer_of, state_of, text_entry, width_entry, window_entry};
 ghost use Rattle.wk1_records.specs.declared.entry.Entry.TheVariants as entry;
 
-use crate::{Entry, ReadCodes, Wk1Fault};
+use crate::lengths::{CODE, CODE_LENGTH, HEAD};
+use crate::{Entry, INTEGER_LENGTH, NUMBER_LENGTH, ReadCodes, Wk1Fault};
 use fixed_value::{DoubleRead, Fixed, from_double_bits};
 use formula_tree::{Expr, ExprList, Formula, Function, Value};
 use grid_address::{COLUMNS, Cell, Format, ROWS, Span};
@@ -125,7 +126,7 @@ fn format_in(body: &[u8]) -> Format
 
 /// What the record of a blank cell says.
 pub fn blank_in(body: &[u8], cell: Cell) -> Entry
-    requires length { 5 ≤ length body.now }
+    requires length { HEAD ≤ length body.now }
     requires cell { cell ≡ cell_of body.now }
     ensures { result ≡ entry.State (cell_of body.now) (state_of body.now content.Blank value.Blank) }
 {
@@ -134,21 +135,21 @@ pub fn blank_in(body: &[u8], cell: Cell) -> Entry
 
 /// What the record of a whole number says.
 pub fn integer_in(body: &[u8], cell: Cell) -> Entry
-    requires length { 7 ≤ length body.now }
+    requires length { INTEGER_LENGTH ≤ length body.now }
     requires cell { cell ≡ cell_of body.now }
-    ensures { result ≡ entry.State (cell_of body.now) (numbered body.now (short_value (short_at 5 body.now))) }
+    ensures { result ≡ entry.State (cell_of body.now) (numbered body.now (short_value (short_at HEAD body.now))) }
 {
-    let number = short_value(short_at(body, 5));
+    let number = short_value(short_at(body, HEAD));
     Entry::State(cell, CellState::number(number, format_in(body)))
 }
 
 // What the record of a text says that is a formula's value.
 pub fn text_in(alloc: Global, body: &[u8], number: u32, cell: Cell) -> Result<Entry, Wk1Fault>
-    requires length { 5 ≤ length body.now }
+    requires length { HEAD ≤ length body.now }
     requires cell { cell ≡ cell_of body.now }
-    ensures { Gives result (text_entry number body.now (before_zero (drop 5 body.now))) }
+    ensures { Gives result (text_entry number body.now (before_zero (drop HEAD body.now))) }
 {
-    let Some(bytes) = before_zero(bytes_from(body, 5)) else {
+    let Some(bytes) = before_zero(bytes_from(body, HEAD)) else {
         return Err(Wk1Fault::BadText(number));
     };
     if !is_text(bytes) {
@@ -192,11 +193,11 @@ fn label_of(
 
 // What the record of a label says.
 pub fn label_in(alloc: Global, body: &[u8], number: u32, cell: Cell) -> Result<Entry, Wk1Fault>
-    requires length { 5 ≤ length body.now }
+    requires length { HEAD ≤ length body.now }
     requires cell { cell ≡ cell_of body.now }
-    ensures { Gives result (label_state number body.now (before_zero (drop 5 body.now))) }
+    ensures { Gives result (label_state number body.now (before_zero (drop HEAD body.now))) }
 {
-    let Some(bytes) = before_zero(bytes_from(body, 5)) else {
+    let Some(bytes) = before_zero(bytes_from(body, HEAD)) else {
         return Err(Wk1Fault::BadText(number));
     };
     let (prefix, count) = label_prefix(bytes);
@@ -212,10 +213,10 @@ pub fn label_in(alloc: Global, body: &[u8], number: u32, cell: Cell) -> Result<E
 
 // The eight bytes behind a head, as a double.
 fn double_in(body: &[u8]) -> DoubleRead
-    requires { 13 ≤ length body.now }
-    ensures { result ≡ double_at 5 body.now }
+    requires { NUMBER_LENGTH ≤ length body.now }
+    ensures { result ≡ double_at HEAD body.now }
 {
-    from_double_bits(first_long(bytes_from(body, 5)))
+    from_double_bits(first_long(bytes_from(body, HEAD)))
 }
 
 // The value that stands with a formula.
@@ -232,20 +233,20 @@ fn stored_value(read: DoubleRead) -> Value
 
 // The bytes of a formula's code.
 fn code_in(body: &[u8]) -> &[u8]
-    requires { 15 + short_at 13 body.now ≤ length body.now }
+    requires { CODE + short_at CODE_LENGTH body.now ≤ length body.now }
     ensures code { result.now ≡ code_in body.now }
     ensures size { length result.now ≤ 65535 }
 {
-    let size = usize::from(short_at(body, 13));
-    &bytes_from(body, 15)[..size]
+    let size = usize::from(short_at(body, CODE_LENGTH));
+    &bytes_from(body, CODE)[..size]
 }
 
 // What the record of a formula says, whose code has a tree.
 fn computed_in(body: &[u8], cell: Cell, formula: Formula) -> Result<Entry, Wk1Fault>
-    requires length { 13 ≤ length body.now }
+    requires length { NUMBER_LENGTH ≤ length body.now }
     requires cell { cell ≡ cell_of body.now }
     ensures { Gives result (Ok (entry.Formula (cell_of body.now)
-        (state_of body.now (content.Formula formula) (stored_value (double_at 5 body.now))))) }
+        (state_of body.now (content.Formula formula) (stored_value (double_at HEAD body.now))))) }
 {
     let value = stored_value(double_in(body));
     match CellState::formula(formula, value, format_in(body)) {
@@ -261,7 +262,7 @@ pub fn formula_in(
     number: u32,
     cell: Cell,
 ) -> Result<Entry, Wk1Fault>
-    requires length { 15 + short_at 13 body.now ≤ length body.now }
+    requires length { CODE + short_at CODE_LENGTH body.now ≤ length body.now }
     requires cell { cell ≡ cell_of body.now }
     ensures { Gives result (formula_state number body.now (tree_in (code_in body.now))) }
 {
@@ -314,7 +315,7 @@ fn constant_in(
     function: Function,
     value: Value,
 ) -> Result<Entry, Wk1Fault>
-    requires length { 13 ≤ length body.now }
+    requires length { NUMBER_LENGTH ≤ length body.now }
     requires cell { cell ≡ cell_of body.now }
     ensures { Gives result (Ok (entry.State (cell_of body.now) (state_of body.now (constant function) value))) }
 {
@@ -329,9 +330,9 @@ fn constant_in(
 
 // What the record of a number says.
 pub fn number_in(alloc: Global, body: &[u8], number: u32, cell: Cell) -> Result<Entry, Wk1Fault>
-    requires length { 13 ≤ length body.now }
+    requires length { NUMBER_LENGTH ≤ length body.now }
     requires cell { cell ≡ cell_of body.now }
-    ensures { Gives result (number_state number body.now (double_at 5 body.now)) }
+    ensures { Gives result (number_state number body.now (double_at HEAD body.now)) }
 {
     match double_in(body) {
         DoubleRead::Num(read) => Ok(Entry::State(cell, CellState::number(read, format_in(body)))),
