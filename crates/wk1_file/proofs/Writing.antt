@@ -92,7 +92,3 @@ record_joined old new start rest kind size is long =
     ap (λ l. l ++ rest) is ∙ append_assoc old (k ++ (s ++ start)) rest
     ∙ ap (λ l. old ++ l) (append_assoc k (s ++ start) rest ∙ ap (λ l. k ++ l) (append_assoc s start rest))
     ∙ ap (λ n. old ++ (k ++ (to_le_bytes w16 n ++ (start ++ rest)))) long
-
--- three parts behind another are one
-pub behind : (a b c d : List ℕ) → ((a ++ b) ++ c) ++ d ≡ a ++ (b ++ (c ++ d))
-behind a b c d = append_assoc (a ++ b) c d ∙ append_assoc a b (c ++ d)

@@ -13,6 +13,7 @@ ghost use Rattle.wk1_formula.specs.Written.{code_of};
 ghost use Rattle.wk1_records.specs.Records.{piece_bytes, pieces_bytes};
 ghost use Rattle.wk1_records.specs.declared.kind.RecordKind.TheVariants as kind;
 ghost use Rattle.wk1_records.specs.Bodies.{head, made};
+ghost use Rattle.wk1_records.specs.Kinds.{number_of};
 ghost use Rattle.wk1_file.specs.Saved.{cell_pieces, content_pieces, formula_piece, text_pieces, integer_bytes, is_integer, number_piece, value_bits};
 
 use fixed_value::Fixed;
@@ -21,17 +22,29 @@ use grid_address::Cell;
 use lics_text::{LabelPrefix, Memory, Text};
 use sheet_store::{CellState, Store};
 use std::alloc::Global;
-use wk1_formula::{ERR_BITS, NA_BITS, double_bits, put, put_short, write_code};
+use wk1_formula::{ERR_BITS, NA_BITS, double_bits, put, write_code};
 use wk1_records::{
     BLANK_LENGTH, FORMULA_LENGTH, INTEGER_LENGTH, LABEL_LENGTH, NUMBER_LENGTH, RecordKind,
-    STR_LENGTH, begin_record,
+    STR_LENGTH, beginning,
 };
 
 /// Adds the record of a blank cell.
 pub fn put_blank(cell: Cell, state: &CellState, into: &mut Vec<u8>) -> Result<(), Memory>
     ensures { OnOk result (into.new.items ≡ into.old.items ++ piece_bytes (made kind.Blank (head cell state.now))) }
 {
-    begin_record(RecordKind::Blank, BLANK_LENGTH, cell, state, into)
+    put(
+        &beginning(RecordKind::Blank, BLANK_LENGTH, cell, state),
+        into,
+    )
+}
+
+// What stands before a label's text: what its record begins with, and its prefix.
+fn before_label(cell: Cell, state: &CellState, prefix: LabelPrefix, size: u16) -> [u8; 10]
+    ensures { result ≡ to_le_bytes w16 (number_of kind.Label)
+        ++ (to_le_bytes w16 size ++ (head cell state.now ++ prefix_byte prefix ∷ [])) }
+{
+    let [a, b, c, d, e, f, g, h, i] = beginning(RecordKind::Label, size, cell, state);
+    [a, b, c, d, e, f, g, h, i, prefix.byte()]
 }
 
 /// Adds the record of a label.
@@ -46,8 +59,10 @@ pub fn put_label(
         ++ piece_bytes (made kind.Label (head cell state.now ++ prefix_byte prefix ∷ (text.now ++ 0 ∷ [])))) }
 {
     let size = text.bytes().len() as u16;
-    begin_record(RecordKind::Label, LABEL_LENGTH + size, cell, state, into)?;
-    put(&[prefix.byte()], into)?;
+    put(
+        &before_label(cell, state, prefix, LABEL_LENGTH + size),
+        into,
+    )?;
     put(text.bytes(), into)?;
     put(&[0], into)
 }
@@ -63,7 +78,10 @@ pub fn put_text(
         ≡ into.old.items ++ piece_bytes (made kind.Str (head cell state.now ++ (text.now ++ 0 ∷ [])))) }
 {
     let size = text.bytes().len() as u16;
-    begin_record(RecordKind::Str, STR_LENGTH + size, cell, state, into)?;
+    put(
+        &beginning(RecordKind::Str, STR_LENGTH + size, cell, state),
+        into,
+    )?;
     put(text.bytes(), into)?;
     put(&[0], into)
 }
@@ -84,15 +102,29 @@ fn value_bits(state: &CellState) -> u64
     }
 }
 
-// Adds what stands behind the place of a formula: its value, the length of its code, and the code.
-fn put_computed(state: &CellState, code: &[u8], into: &mut Vec<u8>) -> Result<(), Memory>
-    requires { length code.now < 65536 }
-    ensures { OnOk result (into.new.items ≡ into.old.items
-        ++ (to_le_bytes w64 (value_bits state.now.value) ++ (to_le_bytes w16 (length code.now) ++ code.now))) }
+// What stands between the place of a formula and its code: its value, and the length of the code.
+fn before_code(bits: u64, size: u16) -> [u8; 10]
+    ensures { result ≡ to_le_bytes w64 bits ++ to_le_bytes w16 size }
 {
-    put(&value_bits(state).to_le_bytes(), into)?;
-    put_short(code.len() as u16, into)?;
-    put(code, into)
+    let [a, b, c, d, e, f, g, h] = bits.to_le_bytes();
+    let [low, high] = size.to_le_bytes();
+    [a, b, c, d, e, f, g, h, low, high]
+}
+
+// What stands before a formula's code in its record.
+fn formula_front(cell: Cell, state: &CellState, size: u16) -> [u8; 19]
+    requires { size ≤ 65520 }
+    ensures { result ≡ to_le_bytes w16 (number_of kind.Formula) ++ (to_le_bytes w16 (FORMULA_LENGTH + size)
+        ++ (head cell state.now ++ (to_le_bytes w64 (value_bits state.now.value) ++ to_le_bytes w16 size))) }
+{
+    let [a, b, c, d, e, f, g, h, i] = beginning(
+        RecordKind::Formula,
+        FORMULA_LENGTH + size,
+        cell,
+        state,
+    );
+    let [j, k, l, m, n, o, p, q, r, s] = before_code(value_bits(state), size);
+    [a, b, c, d, e, f, g, h, i, j, k, l, m, n, o, p, q, r, s]
 }
 
 // A formula's code alone.
@@ -110,9 +142,8 @@ fn put_code(cell: Cell, state: &CellState, code: &[u8], into: &mut Vec<u8>) -> R
     requires { length code.now ≤ 65520 }
     ensures { OnOk result (into.new.items ≡ into.old.items ++ piece_bytes (formula_piece cell state.now code.now)) }
 {
-    let size = FORMULA_LENGTH + code.len() as u16;
-    begin_record(RecordKind::Formula, size, cell, state, into)?;
-    put_computed(state, code, into)
+    put(&formula_front(cell, state, code.len() as u16), into)?;
+    put(code, into)
 }
 
 // A whole number of -32768 to 32767.
@@ -138,6 +169,16 @@ fn whole_of(number: Fixed) -> u16
     }
 }
 
+// The record of a whole number of two bytes.
+fn integer_record(cell: Cell, state: &CellState, number: Fixed) -> [u8; 11]
+    requires { is_integer number ≡ true }
+    ensures { result ≡ piece_bytes (made kind.Integer (head cell state.now ++ integer_bytes number)) }
+{
+    let [a, b, c, d, e, f, g, h, i] = beginning(RecordKind::Integer, INTEGER_LENGTH, cell, state);
+    let [low, high] = whole_of(number).to_le_bytes();
+    [a, b, c, d, e, f, g, h, i, low, high]
+}
+
 // Adds the record of a whole number of two bytes.
 fn put_integer(
     cell: Cell,
@@ -149,8 +190,16 @@ fn put_integer(
     ensures { OnOk result (into.new.items
         ≡ into.old.items ++ piece_bytes (made kind.Integer (head cell state.now ++ integer_bytes number))) }
 {
-    begin_record(RecordKind::Integer, INTEGER_LENGTH, cell, state, into)?;
-    put_short(whole_of(number), into)
+    put(&integer_record(cell, state, number), into)
+}
+
+// The record of a number as a double.
+fn double_record(cell: Cell, state: &CellState, number: Fixed) -> [u8; 17]
+    ensures { result ≡ piece_bytes (made kind.Number (head cell state.now ++ to_le_bytes w64 (bits_of number))) }
+{
+    let [a, b, c, d, e, f, g, h, i] = beginning(RecordKind::Number, NUMBER_LENGTH, cell, state);
+    let [j, k, l, m, n, o, p, q] = double_bits(number).to_le_bytes();
+    [a, b, c, d, e, f, g, h, i, j, k, l, m, n, o, p, q]
 }
 
 // Adds the record of a number as a double.
@@ -163,8 +212,7 @@ fn put_double(
     ensures { OnOk result (into.new.items
         ≡ into.old.items ++ piece_bytes (made kind.Number (head cell state.now ++ to_le_bytes w64 (bits_of number)))) }
 {
-    begin_record(RecordKind::Number, NUMBER_LENGTH, cell, state, into)?;
-    put(&double_bits(number).to_le_bytes(), into)
+    put(&double_record(cell, state, number), into)
 }
 
 /// Adds the record of a number: INTEGER where two bytes hold it.

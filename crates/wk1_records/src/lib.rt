@@ -25,6 +25,6 @@ pub use lengths::{
 pub use meaning::entry_of;
 pub use numbers::{BOF, EOF};
 pub use order::order_byte;
-pub use pieces::{begin_record, number_of, put_piece, put_place};
+pub use pieces::{beginning, number_of, put_piece, put_place};
 pub use read_codes::ReadCodes;
 pub use split::front_piece;

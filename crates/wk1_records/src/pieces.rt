@@ -59,8 +59,9 @@ pub fn put_place(place: Cell, into: &mut Vec<u8>) -> Result<(), Memory>
     put_short(place.row, into)
 }
 
-// What the record of a cell begins with: its type, the length of its body, the format byte and the place.
-fn beginning(kind: RecordKind, size: u16, cell: Cell, state: &CellState) -> [u8; 9]
+/// What the record of a cell begins with, whose body takes so many bytes: its type, the length of its body, the format
+/// byte and the place.
+pub fn beginning(kind: RecordKind, size: u16, cell: Cell, state: &CellState) -> [u8; 9]
     ensures { result ≡ to_le_bytes w16 (number_of kind) ++ (to_le_bytes w16 size ++ head cell state.now) }
 {
     let [kind_low, kind_high] = number_of(kind).to_le_bytes();
@@ -78,20 +79,4 @@ fn beginning(kind: RecordKind, size: u16, cell: Cell, state: &CellState) -> [u8;
         row_low,
         row_high,
     ]
-}
-
-/// Begins the record of a cell, whose body takes so many bytes: adds its type, the length of its body, the format byte
-/// and the place.
-#[inline(always)]
-pub fn begin_record(
-    kind: RecordKind,
-    size: u16,
-    cell: Cell,
-    state: &CellState,
-    into: &mut Vec<u8>,
-) -> Result<(), Memory>
-    ensures { OnOk result (into.new.items
-        ≡ into.old.items ++ (to_le_bytes w16 (number_of kind) ++ (to_le_bytes w16 size ++ head cell state.now))) }
-{
-    put(&beginning(kind, size, cell, state), into)
 }

@@ -9,12 +9,12 @@ use Rattle.wk1_file.proofs.put_cells.put_code.Goals as goal
 
 pub returns : goal.returns
 returns c =
-    let place = head c.args.cell c.args.state.now in
+    let old = c.args.into.now.items in
     let code = c.args.code.now in
-    let begun = c.begin_record.new.into.items in
     let value = to_le_bytes w64 (value_bits c.args.state.now.value) in
-    let rest = value ++ (to_le_bytes w16 (length code) ++ code) in
-    let long : 15 + length code ≡ length (place ++ rest) = omega arith in
-    let all = record_joined c.args.into.now.items begun place rest (number_of kind.Formula) (15 + length code)
-    c.in_ok-begin_record.ensures long in
-    subst (λ l. OnOk c.put_computed.result (c.put_computed.new.into.items ≡ l)) all c.put_computed.ensures
+    let start = head c.args.cell c.args.state.now ++ (value ++ to_le_bytes w16 (length code)) in
+    let long : 15 + length code ≡ length (start ++ code) = omega arith in
+    let begun = c.in_ok-put.ensures ∙ ap (λ l. old ++ l) c.formula_front.ensures in
+    let all = record_joined old c.put.new.into.items start code (number_of kind.Formula) (15 + length code)
+    begun long in
+    subst (λ l. OnOk c.put-2.result (c.put-2.new.into.items ≡ l)) all c.put-2.ensures

@@ -8,15 +8,16 @@ use Rattle.wk1_file.proofs.put_cells.put_text.Goals as goal
 
 pub returns : goal.returns
 returns c =
+    let old = c.args.into.now.items in
     let place = head c.args.cell c.args.state.now in
     let text = c.args.text.now in
     let size = length c.bytes.result.now in
-    let begun = c.begin_record.new.into.items in
+    let begun = c.put.new.into.items in
     let same : size ≡ length text = ap length c.bytes.ensures.value in
-    let parts = ap (λ l. l ++ 0 ∷ []) (c.in_ok-put.ensures ∙ ap (λ l. begun ++ l) c.bytes-2.ensures.value)
+    let parts = ap (λ l. l ++ 0 ∷ []) (c.in_ok-put-2.ensures ∙ ap (λ l. begun ++ l) c.bytes-2.ensures.value)
     ∙ append_assoc begun text (0 ∷ []) in
     let rest = text ++ 0 ∷ [] in
     let long : 6 + size ≡ length (place ++ rest) = omega (arith, same, length-append text (0 ∷ [])) in
-    let all = record_joined c.args.into.now.items begun place rest (number_of kind.Str) (6 + size)
-    c.in_ok-begin_record.ensures long in
-    subst (λ l. OnOk c.put-2.result (c.put-2.new.into.items ≡ l)) (parts ∙ all) c.put-2.ensures
+    let all = record_joined old begun place rest (number_of kind.Str) (6 + size)
+    (c.in_ok-put.ensures ∙ ap (λ l. old ++ l) c.beginning.ensures) long in
+    subst (λ l. OnOk c.put-3.result (c.put-3.new.into.items ≡ l)) (parts ∙ all) c.put-3.ensures
