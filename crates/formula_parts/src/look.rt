@@ -1,10 +1,11 @@
 // What formulas look at.
-ghost use Rattle.std.specs.Prelude.{◌≡◌, ◌≤◌, IfOk, IfNone, IfSome, Some, None, true, ℕ, pos};
+ghost use Rattle.std.specs.Prelude.{◌≡◌, ◌≤◌, IfOk, IfNone, IfSome, Some, None, true, ℕ, ℤ, pos};
 ghost use Rattle.grid_address.specs.Place.{is_within, Place};
 ghost use Rattle.formula_tree.specs.Seen.{seen_content, seen_value};
 ghost use Rattle.formula_tree.specs.declared.value.Value.TheVariants as value;
 ghost use Rattle.formula_parts.specs.Outlook.{filled, Outlook, Sight};
 
+use fixed_value::Fixed;
 use formula_tree::{ContentRef, ValueRef};
 use grid_address::{Cell, CellList, Format, Span};
 use lics_text::Memory;
@@ -18,6 +19,11 @@ pub trait Look {
     /// The value of a cell.
     fn value(&self, cell: Cell) -> ValueRef<'_>
         ensures { seen_value result ≡ (sight self.now).values cell };
+
+    /// The number that a cell's value is; none where it is something else.
+    fn number(&self, cell: Cell) -> Option<Fixed>
+        ensures some { IfSome result (λ n. (sight self.now).values cell ≡ value.Num n) }
+        ensures none { IfNone result ((n : ℤ) → (sight self.now).values cell ≡ value.Num n → ⊥) };
 
     /// What a cell holds; none where nothing is kept of it.
     fn content(&self, cell: Cell) -> Option<ContentRef<'_>>

@@ -12,7 +12,7 @@ use crate::look::Look;
 use crate::lookups::{place_in, range_of};
 use crate::meaning::operand_of;
 use fixed_value::Fixed;
-use formula_tree::{Expr, Function, ValueRef};
+use formula_tree::{Expr, Function};
 use grid_address::{Cell, Span};
 use value_functions::binary_numbers;
 
@@ -23,10 +23,7 @@ fn number_at<K: Look>(expr: &Expr, at: Cell, look: &K) -> Option<Fixed>
 {
     match expr {
         Expr::Num(number) => Some(*number),
-        Expr::Cell(reference) => match look.value(reference.resolve(at)) {
-            ValueRef::Num(number) => Some(number),
-            ValueRef::Blank | ValueRef::Str(_) | ValueRef::Err | ValueRef::Na => None,
-        },
+        Expr::Cell(reference) => look.number(reference.resolve(at)),
         Expr::Str(_) | Expr::Span(_, _) | Expr::Group(_) | Expr::Neg(_) => None,
         Expr::Not(_) | Expr::Binary(_, _, _) | Expr::Call(_, _) => None,
     }

@@ -1,21 +1,36 @@
 // What is seen of the cells and columns of a store.
-ghost use Rattle.std.specs.Prelude.{◌≡◌, IfNone, IfSome, Some, None};
+ghost use Rattle.std.specs.Prelude.{◌≡◌, IfNone, IfSome, Some, None, ℤ};
 ghost use Rattle.std.specs.FinMap as map;
 ghost use Rattle.formula_tree.specs.Seen.{seen_content, seen_value};
+ghost use Rattle.formula_tree.specs.declared.value.Value.TheVariants as value;
 ghost use Rattle.sheet_store.specs.Grid as grid;
 ghost use Rattle.recalculation.specs.Context.{content_of, format_of, value_at, width_or};
 
+use fixed_value::Fixed;
 use formula_tree::{ContentRef, ValueRef};
 use grid_address::{Cell, Format};
 use sheet_store::{Settings, Store};
 
 /// The value of a cell; one that isn't there is blank.
+#[inline(always)]
 pub fn value_of(store: &Store, cell: Cell) -> ValueRef<'_>
     ensures { seen_value result ≡ value_at store.now cell }
 {
     match store.get(cell) {
         Some(state) => state.value(),
         None => ValueRef::Blank,
+    }
+}
+
+/// The number that a cell's value is; none where it is something else, or the cell isn't there.
+#[inline(always)]
+pub fn number_of(store: &Store, cell: Cell) -> Option<Fixed>
+    ensures some { IfSome result (λ n. value_at store.now cell ≡ value.Num n) }
+    ensures none { IfNone result ((n : ℤ) → value_at store.now cell ≡ value.Num n → ⊥) }
+{
+    match value_of(store, cell) {
+        ValueRef::Num(number) => Some(number),
+        ValueRef::Blank | ValueRef::Str(_) | ValueRef::Err | ValueRef::Na => None,
     }
 }
 

@@ -13,7 +13,7 @@ mod span;
 mod view;
 mod whole;
 
-pub use cells::{content_of, format_of, value_of, width_of};
+pub use cells::{content_of, format_of, number_of, value_of, width_of};
 pub use context::ContextRef;
 pub use evaluate::evaluate_at;
 pub use laws::{any_order_serves, edit_keeps_sound, recalculation_is_cut};

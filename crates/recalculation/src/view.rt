@@ -5,7 +5,8 @@ ghost use Rattle.grid_address.specs.Place.{Place};
 ghost use Rattle.formula_tree.specs.Values.{is_filled};
 ghost use Rattle.recalculation.specs.Context.{sight_of, value_at};
 
-use crate::cells::{content_of, format_of, value_of, width_of};
+use crate::cells::{content_of, format_of, number_of, value_of, width_of};
+use fixed_value::Fixed;
 use formula_parts::Look;
 use formula_tree::{ContentRef, ValueRef};
 use grid_address::{Cell, CellList, Format, Span};
@@ -49,6 +50,10 @@ impl<'a> Look for View<'a> {
 
     fn value(&self, cell: Cell) -> ValueRef<'_> {
         value_of(self.store, cell)
+    }
+
+    fn number(&self, cell: Cell) -> Option<Fixed> {
+        number_of(self.store, cell)
     }
 
     fn content(&self, cell: Cell) -> Option<ContentRef<'_>> {

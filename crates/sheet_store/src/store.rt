@@ -265,6 +265,7 @@ impl Store {
     }
 
     /// Sets the value of a formula. It takes no memory.
+    #[inline(always)]
     pub fn set_value(&mut self, cell: Cell, value: Value)
         requires formula { HasFormula self.old cell }
         requires some { value ≡ Value.Blank → ⊥ }

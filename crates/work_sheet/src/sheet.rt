@@ -34,6 +34,7 @@ ghost use Rattle.work_sheet.specs.Typed.{typed};
 use crate::typed::text_of;
 use cell_maps::CellSet;
 use depend_graph::Graph;
+use fixed_value::Fixed;
 use formula_eval::{Means, Tally};
 use formula_parts::{Look, Scene};
 use formula_tree::{Content, ContentRef, ValueRef};
@@ -41,8 +42,8 @@ use grid_address::{Cell, CellList, Format, Span};
 use lics_text::{Line, MAX_LEN, Memory};
 use range_names::{NameFault, Names};
 use recalculation::{
-    ContextRef, View, all_dirty, content_of, format_of, graph_of, recalc, recalc_span, value_of,
-    width_of,
+    ContextRef, View, all_dirty, content_of, format_of, graph_of, number_of, recalc, recalc_span,
+    value_of, width_of,
 };
 use sheet_edits::{
     Changes, FormatChange, Parts, cells_of, change_cells, copied, erased, first_of, gathered,
@@ -735,6 +736,10 @@ impl<E: Means> Look for WorksheetOf<E> {
 
     fn value(&self, cell: Cell) -> ValueRef<'_> {
         value_of(&self.store, cell)
+    }
+
+    fn number(&self, cell: Cell) -> Option<Fixed> {
+        number_of(&self.store, cell)
     }
 
     fn content(&self, cell: Cell) -> Option<ContentRef<'_>> {
