@@ -84,11 +84,9 @@ pub fn opening(lexemes: &[Lexeme], function: Function) -> Result<&[Lexeme], Pars
         LexemeKind::Open => Ok(rest),
         LexemeKind::Num(_) | LexemeKind::Str(_) | LexemeKind::Cell(_) | LexemeKind::Span(_, _) =>
             Err(refusal(first)),
-        LexemeKind::Constant(_)
-        | LexemeKind::Function(_)
-        | LexemeKind::Infix(_)
-        | LexemeKind::Not => Err(refusal(first)),
-        LexemeKind::Close | LexemeKind::Comma | LexemeKind::Unclosed | LexemeKind::Bad(_) => Err(
+        LexemeKind::Constant(_) | LexemeKind::Function(_) | LexemeKind::Not | LexemeKind::Close =>
+            Err(refusal(first)),
+        LexemeKind::Infix(_) | LexemeKind::Comma | LexemeKind::Unclosed | LexemeKind::Bad(_) => Err(
             refusal(first),
         ),
     }
@@ -107,11 +105,9 @@ pub fn closing(lexemes: &[Lexeme]) -> Result<&[Lexeme], ParseFault>
         LexemeKind::Close => Ok(rest),
         LexemeKind::Num(_) | LexemeKind::Str(_) | LexemeKind::Cell(_) | LexemeKind::Span(_, _) =>
             Err(refusal(first)),
-        LexemeKind::Constant(_)
-        | LexemeKind::Function(_)
-        | LexemeKind::Infix(_)
-        | LexemeKind::Not => Err(refusal(first)),
-        LexemeKind::Open | LexemeKind::Comma | LexemeKind::Unclosed | LexemeKind::Bad(_) => Err(
+        LexemeKind::Constant(_) | LexemeKind::Function(_) | LexemeKind::Not | LexemeKind::Open =>
+            Err(refusal(first)),
+        LexemeKind::Infix(_) | LexemeKind::Comma | LexemeKind::Unclosed | LexemeKind::Bad(_) => Err(
             refusal(first),
         ),
     }
