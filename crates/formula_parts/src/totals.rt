@@ -105,14 +105,12 @@ pub fn add_item(total: &mut Total, item: Item) -> bool
     let greatest = larger(total.greatest, Item::Is(size));
     let has_err = either(total.has_err, addend.is_err);
     let has_na = either(total.has_na, addend.is_na);
-    *total = Total {
-        count,
-        sum,
-        least,
-        greatest,
-        has_err,
-        has_na,
-    };
+    total.count = count;
+    total.sum = sum;
+    total.least = least;
+    total.greatest = greatest;
+    total.has_err = has_err;
+    total.has_na = has_na;
     true
 }
 
