@@ -1,11 +1,10 @@
 -- A file's cells are written, unless one of them would stand past the sheet.
-use Rattle.std.specs.Prelude.{◌≡◌, ℕ, Bool, true, false, refl, if◌then◌else◌}
+use Rattle.std.specs.Prelude.{◌≡◌, ℕ, Bool, false, if◌then◌else◌}
 use Rattle.std.specs.FinMap as map
 use Rattle.std.specs.List.{list_any}
 use Rattle.std.proofs.Common.{subst}
 use Rattle.command_desk.specs.Acting.{refused, HasActed}
 use Rattle.command_desk.specs.declared.ending.CommandEnd.{CommandEnd}
-use Rattle.command_desk.specs.declared.ending.CommandEnd.TheVariants.{Refused}
 use Rattle.commands_file.specs.Combined.{combined, leaves_sheet, used_span, written_in}
 use Rattle.commands_file.specs.declared.combining.Combining.{Combining}
 use Rattle.desk_errors.specs.declared.error.CommandError.TheVariants as error
@@ -13,7 +12,6 @@ use Rattle.formula_parts.specs.declared.look.Scene.{Scene}
 use Rattle.sheet_store.specs.Grid.{Grid}
 use Rattle.work_sheet.specs.Seen.{of_worksheet}
 use Rattle.work_sheet.specs.Sheets.{Worksheet}
-use Rattle.work_sheet.proofs.Done.{left}
 
 module _ (k : Combining) (file : Grid) (scene : Scene) (v w : Worksheet) (m n : ℕ) (came : CommandEnd) where
   -- what it is, by whether one would
@@ -31,11 +29,3 @@ module _ (k : Combining) (file : Grid) (scene : Scene) (v w : Worksheet) (m n : 
       HasActed (written_in k file scene (of_worksheet v)) came v w m n
       → HasActed (combined k file scene (of_worksheet v)) came v w m n
   written_acts is acted = by_test false is acted
-
--- where one does, the command is refused
-pub leaving_acts : (k : Combining) (file : Grid) (scene : Scene) (v : Worksheet) (n : ℕ) →
-    true ≡ list_any (leaves_sheet k v.settings.pointer) (map.entries file.cells) →
-    HasActed (combined k file scene (of_worksheet v)) (Refused (error.OutOfSheet (used_span file))) v v n n
-leaving_acts k file scene v n is =
-    by_test k file scene v v n n (Refused (error.OutOfSheet (used_span file))) true is
-    (record { end = refl; did = left v v n n refl refl })

@@ -1,10 +1,10 @@
 // A file's cells are combined with those of the sheet.
-ghost use Rattle.std.specs.Prelude.{◌≡◌, ◌++◌, ◌∷◌, [], IfOk, OnOk, Some};
+ghost use Rattle.std.specs.Prelude.{◌≡◌, ◌++◌, ◌∷◌, [], IfNone, IfOk, IfSome, OnOk, Some, false, true};
 ghost use Rattle.std.specs.FinMap as map;
 ghost use Rattle.std.specs.List.{list_any};
 ghost use Rattle.command_desk.specs.Acting.{HasActedBy};
 ghost use Rattle.commands_file.specs.Combined.{combined, combined_writes, is_number, is_taken, leaves_sheet};
-ghost use Rattle.commands_file.specs.Combined.{number_held, number_or_err, placed, total, totalled, used_span, write_of};
+ghost use Rattle.commands_file.specs.Combined.{number_held, number_or_err, placed, total, totalled, used_span, write_at, write_of};
 ghost use Rattle.work_sheet.specs.Seen.{of_worksheet};
 
 use block_writes::{content_of, written};
@@ -68,26 +68,6 @@ fn placed(pointer: Cell, cell: Cell) -> Option<Cell>
     } else {
         None
     }
-}
-
-// Whether a file's cell is taken and would stand past the sheet.
-fn leaves_sheet(kind: Combining, pointer: Cell, cell: Cell, state: &CellState) -> bool
-    ensures { result ≡ leaves_sheet kind pointer (cell, state.now) }
-{
-    is_taken(kind, state) && placed(pointer, cell).is_none()
-}
-
-// Whether one of a file's cells does.
-fn one_leaves(kind: Combining, pointer: Cell, file: &Store) -> bool
-    ensures { result ≡ list_any (leaves_sheet kind pointer) (map.entries file.now.cells) }
-{
-    let mut entries = file.entries();
-    while let Some(entry) = entries.next() {
-        if leaves_sheet(kind, pointer, entry.0, entry.1) {
-            return true;
-        }
-    }
-    false
 }
 
 // The number that a cell holds; nothing is 0, and any other content is none.
@@ -158,7 +138,23 @@ fn push_total(
     writes.push(written(cell, content))
 }
 
-// Adds what is written of a file's cell.
+// Adds what is written of a file's cell that is taken, where it stands in the sheet.
+fn push_placed(
+    writes: &mut Writes,
+    kind: Combining,
+    sheet: &Store,
+    to: Cell,
+    state: &CellState,
+) -> Result<(), Memory>
+    ensures { OnOk result (writes.new ≡ writes.old ++ write_at kind sheet.now to state.now) }
+{
+    match kind {
+        Combining::Copy => push_copy(writes, to, state),
+        Combining::Add | Combining::Subtract => push_total(writes, kind, sheet, to, state),
+    }
+}
+
+// Adds what is written of a file's cell; true exactly where it is taken and would stand past the sheet.
 fn push_write(
     writes: &mut Writes,
     kind: Combining,
@@ -166,36 +162,45 @@ fn push_write(
     pointer: Cell,
     cell: Cell,
     state: &CellState,
-) -> Result<(), Memory>
-    ensures { OnOk result (writes.new ≡ writes.old ++ write_of kind sheet.now pointer (cell, state.now)) }
+) -> Result<bool, Memory>
+    ensures leaves { IfOk result (λ leaves. leaves ≡ leaves_sheet kind pointer (cell, state.now)) }
+    ensures writes { OnOk result (writes.new ≡ writes.old ++ write_of kind sheet.now pointer (cell, state.now)) }
 {
     if !is_taken(kind, state) {
-        return Ok(());
+        return Ok(false);
     }
-    let Some(to) = placed(pointer, cell) else {
-        return Ok(());
-    };
-    match kind {
-        Combining::Copy => push_copy(writes, to, state),
-        Combining::Add | Combining::Subtract => push_total(writes, kind, sheet, to, state),
+    match placed(pointer, cell) {
+        Some(to) => {
+            push_placed(writes, kind, sheet, to, state)?;
+            Ok(false)
+        }
+        None => Ok(true),
     }
 }
 
-// What is written of a file's cells, in row order, over the cells of the sheet.
+// What is written of a file's cells, in row order, over the cells of the sheet; none where one of them is taken and
+// would stand past the sheet.
 fn combined_writes(
     kind: Combining,
     file: &Store,
     sheet: &Store,
     pointer: Cell,
-) -> Result<Writes, Memory>
-    ensures { IfOk result (λ writes. writes ≡ combined_writes kind file.now sheet.now pointer) }
+) -> Result<Option<Writes>, Memory>
+    ensures some { IfOk result (λ got. IfSome got (λ writes.
+        (list_any (leaves_sheet kind pointer) (map.entries file.now.cells) ≡ false)
+        × (writes ≡ combined_writes kind file.now sheet.now pointer))) }
+    ensures none { IfOk result (λ got. IfNone got
+        (list_any (leaves_sheet kind pointer) (map.entries file.now.cells) ≡ true)) }
 {
     let mut writes = Writes::new(sheet.alloc());
     let mut entries = file.entries();
     while let Some(entry) = entries.next() {
-        push_write(&mut writes, kind, sheet, pointer, entry.0, entry.1)?;
+        let leaves = push_write(&mut writes, kind, sheet, pointer, entry.0, entry.1)?;
+        if leaves {
+            return Ok(None);
+        }
     }
-    Ok(writes)
+    Ok(Some(writes))
 }
 
 // The span from A1 to the last used column and row.
@@ -229,10 +234,12 @@ pub(crate) fn combine(
         end sheet.old sheet.new tally.old.count tally.new.count) }
 {
     let pointer = pointer_of(sheet);
-    if one_leaves(kind, pointer, file) {
-        return Ok(CommandEnd::Refused(CommandError::OutOfSheet(used_span(file))));
+    let gathered = combined_writes(kind, file, sheet.cells(), pointer)?;
+    match gathered {
+        Some(writes) => {
+            let answer = sheet.write(&writes);
+            settled(answer, sheet, scene, tally)
+        }
+        None => Ok(CommandEnd::Refused(CommandError::OutOfSheet(used_span(file)))),
     }
-    let writes = combined_writes(kind, file, sheet.cells(), pointer)?;
-    let answer = sheet.write(&writes);
-    settled(answer, sheet, scene, tally)
 }
