@@ -9,7 +9,7 @@ use Rattle.command_desk.specs.declared.ending.CommandEnd.{CommandEnd}
 use Rattle.command_desk.specs.declared.ending.CommandEnd.TheVariants.{Finished, Refused}
 use Rattle.commands_file.specs.Calls.{failed, fetched, gets, loaded, puts, there, written, HasAnswered, Reply}
 use Rattle.commands_file.specs.Calls.{ShelfCall, ShelfView}
-use Rattle.commands_file.specs.Commands.{by_call, finished, is_readable, put_readable, recalculated_there, refused}
+use Rattle.commands_file.specs.Commands.{by_call, is_readable, put_readable, recalculated_there, refused}
 use Rattle.commands_file.specs.Commands.{retrieved_sheet, saved_as, scene_in, with_file, without_call}
 use Rattle.commands_file.specs.Commands.{HasActedOver}
 use Rattle.commands_file.specs.Steps.{is_written, HasCalled}
@@ -197,17 +197,6 @@ module _ (make : SavedSheet → DeskActed) (name : List ℕ) (v : declared.Desk)
       by written e a =
           over (gets name) act written (Refused why) v v n n before now
           (refused_on error.DiskError (Refused why) v n (is e)) a
-
--- what was done to the sheet alone
-pub done_on : (done : Done) (v : declared.Desk) (new : Worksheet) (m n : ℕ) → Did done v.sheet new m n →
-    HasActedOn (finished done (of_desk v)) Finished v (record v { sheet = new }) m n
-done_on done v new m n did =
-    record {
-      end = refl;
-      desk = ap (λ (s : Sheet). on_sheet (of_desk v) s) did.sheet;
-      work = did.work;
-      history = did.history;
-    }
 
 -- a command over the worksheet is one over the desk
 pub acted_on : (act : Sheet → Acted) (came : CommandEnd) (v : declared.Desk) (new : Worksheet) (m n : ℕ)

@@ -1,12 +1,14 @@
 // What each command below File does.
 ghost use Rattle.std.specs.Prelude.{◌≡◌, ℕ, IfOk, OnErr, OnOk};
+ghost use Rattle.command_desk.specs.Acting.{HasActedBy};
 ghost use Rattle.command_desk.specs.Answered.{span_at};
 ghost use Rattle.command_desk.specs.Desks.{of_desk};
-ghost use Rattle.commands_file.specs.Calls.{gets, shelf_view};
-ghost use Rattle.commands_file.specs.Commands.{act, act_named, by_call, combined_with, extracted_to, put_readable, retrieved};
-ghost use Rattle.commands_file.specs.Commands.{retrieved_sheet, saved_as, saved_of, HasActedOver, HasBrokenIn};
+ghost use Rattle.commands_file.specs.Calls.{shelf_view};
+ghost use Rattle.commands_file.specs.Commands.{act, act_named, extracted_to, put_readable, retrieved_sheet, saved_as};
+ghost use Rattle.commands_file.specs.Commands.{saved_of, HasActedOver, HasBrokenIn};
 ghost use Rattle.commands_file.specs.Extracted.{extracted};
 ghost use Rattle.commands_file.specs.inner.Placing.{IsPlaced, IsUnplaced};
+ghost use Rattle.commands_file.specs.inner.Using.{file_used, used};
 ghost use Rattle.wk1_file.specs.Saved.{file_bytes};
 ghost use Rattle.work_sheet.specs.Did.{Did};
 ghost use Rattle.work_sheet.specs.Seen.{of_worksheet};
@@ -44,52 +46,53 @@ fn replace(
     sheet.calc(&there, tally)
 }
 
-// A file is retrieved.
-fn retrieve<S: Shelf>(
-    name: &FileName,
-    desk: &mut Desk,
-    shelf: &mut S,
+// What the sheet of a file that is read is used for.
+#[derive(Clone, Copy)]
+enum FileUse {
+    // It takes the place of the sheet.
+    Retrieve,
+    // Its cells are combined with those of the sheet.
+    Combine(Combining),
+}
+
+// The sheet of a file is used.
+fn use_sheet(
+    how: FileUse,
+    saved: SavedSheet,
+    sheet: &mut Worksheet,
     scene: &Scene,
     tally: &mut Tally,
 ) -> Result<CommandEnd, Memory>
-    ensures acted { IfOk result (λ end. HasActedOver
-        (λ reply. by_call (gets name.now) reply (retrieved scene.entry.now (of_desk desk.old))) end desk.old desk.new
-        tally.old.count tally.new.count
-        (shelf_view (S.holds shelf.old) (S.faults shelf.old)) (shelf_view (S.holds shelf.new) (S.faults shelf.new))) }
-    ensures memory { OnErr result (HasBrokenIn
-        (λ reply. by_call (gets name.now) reply (retrieved scene.entry.now (of_desk desk.old)))
-        (shelf_view (S.holds shelf.old) (S.faults shelf.old)) (shelf_view (S.holds shelf.new) (S.faults shelf.new))) }
+    ensures { IfOk result (λ end.
+        HasActedBy (used how saved scene.entry.now) end sheet.old sheet.new tally.old.count tally.new.count) }
 {
-    let loaded = load(name, desk.sheet.alloc(), shelf)?;
-    match loaded {
-        Loaded::Sheet(saved) => {
-            replace(saved, &mut desk.sheet, scene, tally)?;
+    match how {
+        FileUse::Retrieve => {
+            replace(saved, sheet, scene, tally)?;
             Ok(CommandEnd::Finished)
         }
-        Loaded::Refused(error) => Ok(CommandEnd::Refused(error)),
+        FileUse::Combine(kind) => combine(kind, &saved.store, sheet, scene, tally),
     }
 }
 
-// A file's cells are combined with those of the sheet.
-fn combine_file<S: Shelf>(
-    kind: Combining,
+// A file is read, and its sheet used.
+fn use_file<S: Shelf>(
+    how: FileUse,
     name: &FileName,
     desk: &mut Desk,
     shelf: &mut S,
     scene: &Scene,
     tally: &mut Tally,
 ) -> Result<CommandEnd, Memory>
-    ensures acted { IfOk result (λ end. HasActedOver
-        (λ reply. by_call (gets name.now) reply (combined_with kind scene.entry.now (of_desk desk.old))) end desk.old
-        desk.new tally.old.count tally.new.count
+    ensures acted { let acts = file_used how name.now scene.entry.now (of_desk desk.old) in
+        IfOk result (λ end. HasActedOver acts end desk.old desk.new tally.old.count tally.new.count
         (shelf_view (S.holds shelf.old) (S.faults shelf.old)) (shelf_view (S.holds shelf.new) (S.faults shelf.new))) }
-    ensures memory { OnErr result (HasBrokenIn
-        (λ reply. by_call (gets name.now) reply (combined_with kind scene.entry.now (of_desk desk.old)))
+    ensures memory { OnErr result (HasBrokenIn (file_used how name.now scene.entry.now (of_desk desk.old))
         (shelf_view (S.holds shelf.old) (S.faults shelf.old)) (shelf_view (S.holds shelf.new) (S.faults shelf.new))) }
 {
     let loaded = load(name, desk.sheet.alloc(), shelf)?;
     match loaded {
-        Loaded::Sheet(saved) => combine(kind, &saved.store, &mut desk.sheet, scene, tally),
+        Loaded::Sheet(saved) => use_sheet(how, saved, &mut desk.sheet, scene, tally),
         Loaded::Refused(error) => Ok(CommandEnd::Refused(error)),
     }
 }
@@ -188,13 +191,20 @@ fn act_named<S: Shelf>(
 {
     let answers = command.answers;
     match command.action {
-        FileAction::Retrieve => retrieve(&name, desk, shelf, scene, tally),
+        FileAction::Retrieve => use_file(FileUse::Retrieve, &name, desk, shelf, scene, tally),
         FileAction::Save => save(name, desk, shelf),
         FileAction::Erase => remove(&name, shelf),
-        FileAction::CombineCopy => combine_file(Combining::Copy, &name, desk, shelf, scene, tally),
-        FileAction::CombineAdd => combine_file(Combining::Add, &name, desk, shelf, scene, tally),
+        FileAction::CombineCopy => {
+            let how = FileUse::Combine(Combining::Copy);
+            use_file(how, &name, desk, shelf, scene, tally)
+        }
+        FileAction::CombineAdd => {
+            let how = FileUse::Combine(Combining::Add);
+            use_file(how, &name, desk, shelf, scene, tally)
+        }
         FileAction::CombineSubtract => {
-            combine_file(Combining::Subtract, &name, desk, shelf, scene, tally)
+            let how = FileUse::Combine(Combining::Subtract);
+            use_file(how, &name, desk, shelf, scene, tally)
         }
         FileAction::XtractFormulas => extract(Extracting::Formulas, &name, answers, desk, shelf),
         FileAction::XtractValues => extract(Extracting::Values, &name, answers, desk, shelf),
