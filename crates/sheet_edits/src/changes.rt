@@ -1,5 +1,5 @@
 // States that cells are to have.
-ghost use Rattle.std.specs.Prelude.{◌≡◌, OnOk, option_copied};
+ghost use Rattle.std.specs.Prelude.{◌≡◌, IfOk, OnOk, option_copied};
 ghost use Rattle.std.specs.FinMap as map;
 ghost use Rattle.grid_address.specs.Place.{place_cmp};
 
@@ -37,6 +37,23 @@ impl Changes {
         Changes {
             states: CellMap::new(alloc),
         }
+    }
+
+    /// No states, with room for so many.
+    pub fn with_room(alloc: Global, count: usize) -> Result<Changes, Memory>
+        ensures { IfOk result (λ m. m ≡ map.empty) }
+    {
+        let mut changes = Changes::new(alloc);
+        changes.reserve(count)?;
+        Ok(changes)
+    }
+
+    /// Makes room for so many states more, as far as there is memory.
+    pub fn reserve(&mut self, more: usize) -> Result<(), Memory>
+        ensures { self.new ≡ self.old }
+    {
+        self.states.reserve(more)?;
+        Ok(())
     }
 
     /// Gives a cell a state, in place of an earlier one. Want of memory is the one fault.

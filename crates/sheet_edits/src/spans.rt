@@ -176,7 +176,7 @@ pub fn copied(store: &Store, from: Span, first: Cell, cells: &[Cell]) -> Result<
 {
     // The store is asked for what it keeps of its cells.
     store.are_held();
-    let mut changes = Changes::new(store.alloc());
+    let mut changes = Changes::with_room(store.alloc(), cells.len())?;
     for cell in cells {
         let state = copied_state(store, source_of(from, first, *cell))?;
         changes.set(*cell, state)?;
@@ -264,7 +264,7 @@ pub fn reformatted(store: &Store, change: FormatChange, cells: &[Cell]) -> Resul
 {
     // The store is asked for what it keeps of its cells.
     store.are_held();
-    let mut changes = Changes::new(store.alloc());
+    let mut changes = Changes::with_room(store.alloc(), cells.len())?;
     for cell in cells {
         let state = reformatted_state(store, *cell, change)?;
         changes.set(*cell, state)?;

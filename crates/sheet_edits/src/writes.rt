@@ -81,6 +81,7 @@ pub fn gathered(
     requires changes { changes.old ≡ map.empty }
     ensures { OnOk result (AreGathered store.now writes.now cells.new changes.new) }
 {
+    changes.reserve(writes.len())?;
     for place in 0..writes.len() {
         if let Some(write) = writes.get(place) {
             gather(store, write, cells, changes)?;

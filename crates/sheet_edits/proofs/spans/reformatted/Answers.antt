@@ -7,7 +7,7 @@ use Rattle.sheet_edits.specs.Spans.{reformatted_state, rule_of}
 use Rattle.sheet_edits.proofs.spans.reformatted.Goals as goal
 
 pub loop-cell-init : goal.loop-cell-init
-loop-cell-init c = nothing_given c.new-changes.result c.new-changes.ensures
+loop-cell-init c = nothing_given c.in_ok-changes.changes c.in_ok-changes.ensures
 
 pub loop-cell-preserved : goal.loop-cell-preserved
 loop-cell-preserved c = given_more c.args.cells.now c.loop-cell.cell-index c.cell-item.result

@@ -6,7 +6,8 @@ use Rattle.sheet_edits.proofs.writes.gathered.Goals.{in-Some+in_ok-gather, in_de
 
 pub loop-place-init : goal.loop-place-init
 loop-place-init c =
-    nothing_gathered c.args.store.now c.args.cells.now c.args.changes.now c.requires.cells c.requires.changes
+    nothing_gathered c.args.store.now c.args.cells.now c.reserve.new.self c.requires.cells
+    (c.reserve.ensures ∙ c.requires.changes)
 
 pub loop-place-preserved : goal.loop-place-preserved
 loop-place-preserved c = elim c.match-get.branch [
