@@ -1,5 +1,6 @@
 pub mod Between
 pub mod Compared
+pub mod Going
 pub mod Made
 pub mod Pasts
 pub mod States

@@ -6,7 +6,7 @@ ghost use Rattle.edit_log.specs.Changes.{all_changed, AreOnce};
 ghost use Rattle.sheet_undo.specs.Histories.{but_pointer};
 ghost use Rattle.sheet_undo.specs.inner.Keeping.{columns_or, names_or};
 
-use crate::cells::are_same_cells;
+use crate::cells::{TwoCodes, are_same_cells};
 use crate::changes::{has_state, is_absent};
 use crate::columns::are_same_columns;
 use crate::names::are_same_names;
@@ -64,11 +64,11 @@ pub fn are_columns_kept(own: &Option<Store>, store: &Store) -> bool
 }
 
 // Whether a cell of a store has what a change gives it.
-fn is_as_changed(change: &Change, store: &Store) -> Result<bool, Memory>
+fn is_as_changed(change: &Change, store: &Store, codes: &mut TwoCodes) -> Result<bool, Memory>
     ensures { IfOk result (λ same. Decides same (map.get store.now.cells change.now.0 ≡ change.now.1)) }
 {
     match change.state(store.alloc())? {
-        Some(state) => has_state(store, change.cell(), &state),
+        Some(state) => has_state(store, change.cell(), &state, codes),
         None => Ok(is_absent(store, change.cell())),
     }
 }
@@ -78,8 +78,9 @@ pub fn are_changes_made(changes: &[Change], store: &Store) -> Result<bool, Memor
     requires { AreOnce changes.now }
     ensures { IfOk result (λ same. Decides same (all_changed store.now.cells changes.now ≡ store.now.cells)) }
 {
+    let mut codes = TwoCodes::new(store.alloc());
     for change in changes {
-        if !is_as_changed(change, store)? {
+        if !is_as_changed(change, store, &mut codes)? {
             return Ok(false);
         }
     }

@@ -1,6 +1,6 @@
 // Whether two stores hold the same cells.
 ghost use Rattle.std.specs.Bool.{Decides};
-ghost use Rattle.std.specs.Prelude.{◌≡◌, ◌&&◌, [], bytes_eq, nat_eq, IfOk};
+ghost use Rattle.std.specs.Prelude.{◌≡◌, ◌&&◌, [], bytes_eq, nat_eq, IfOk, OnOk};
 ghost use Rattle.lics_text.specs.Prefixes.{prefix_byte};
 ghost use Rattle.grid_address.specs.Place.{same_place};
 ghost use Rattle.formula_tree.specs.Values.{same_value};
@@ -11,6 +11,7 @@ use formula_tree::{ContentRef, Formula, ValueRef};
 use grid_address::Cell;
 use lics_text::{LabelPrefix, Memory, Text};
 use sheet_store::{CellState, Entries, Store};
+use std::alloc::Global;
 use wk1_formula::write_code;
 
 // Whether two texts are one.
@@ -55,19 +56,52 @@ fn is_same_value(one: &CellState, other: &CellState) -> bool
     }
 }
 
+// Room for the codes of two formulas that are compared.
+#[derive(Drop)]
+pub struct TwoCodes {
+    left: Vec<u8>,
+    right: Vec<u8>,
+}
+
+impl TwoCodes {
+    // No codes. They take no memory.
+    pub fn new(alloc: Global) -> TwoCodes {
+        TwoCodes {
+            left: Vec::new(alloc),
+            right: Vec::new(alloc),
+        }
+    }
+}
+
+// Adds the code of a formula in a worksheet file, in place of what was there.
+fn put_code(formula: &Formula, at: Cell, into: &mut Vec<u8>) -> Result<(), Memory>
+    ensures { OnOk result (into.new.items ≡ code_of formula.now at) }
+{
+    into.clear();
+    write_code(formula, at, into)
+}
+
 // Whether two formulas of a cell have the same code in a worksheet file.
-fn is_same_formula(one: &Formula, other: &Formula, at: Cell) -> Result<bool, Memory>
+fn is_same_formula(
+    one: &Formula,
+    other: &Formula,
+    at: Cell,
+    codes: &mut TwoCodes,
+) -> Result<bool, Memory>
     ensures { IfOk result (λ same. same ≡ bytes_eq (code_of one.now at) (code_of other.now at)) }
 {
-    let mut left = Vec::new(one.alloc());
-    let mut right = Vec::new(one.alloc());
-    write_code(one, at, &mut left)?;
-    write_code(other, at, &mut right)?;
-    Ok(left.as_slice() == right.as_slice())
+    put_code(one, at, &mut codes.left)?;
+    put_code(other, at, &mut codes.right)?;
+    Ok(codes.left.as_slice() == codes.right.as_slice())
 }
 
 // Whether two states of a cell have one content.
-fn is_same_content(one: &CellState, other: &CellState, at: Cell) -> Result<bool, Memory>
+fn is_same_content(
+    one: &CellState,
+    other: &CellState,
+    at: Cell,
+    codes: &mut TwoCodes,
+) -> Result<bool, Memory>
     ensures { IfOk result (λ same. same ≡ same_content at one.now.content other.now.content) }
 {
     match one.content() {
@@ -84,7 +118,7 @@ fn is_same_content(one: &CellState, other: &CellState, at: Cell) -> Result<bool,
             ContentRef::Blank | ContentRef::Number(_) | ContentRef::Formula(_) => Ok(false),
         },
         ContentRef::Formula(formula) => match other.content() {
-            ContentRef::Formula(tree) => is_same_formula(formula, tree, at),
+            ContentRef::Formula(tree) => is_same_formula(formula, tree, at, codes),
             ContentRef::Blank | ContentRef::Number(_) | ContentRef::Label(_, _) => Ok(false),
         },
     }
@@ -110,10 +144,15 @@ fn is_same_rest(one: &CellState, other: &CellState) -> bool
 }
 
 // Whether two states of a cell are one.
-fn is_same_state(one: &CellState, other: &CellState, at: Cell) -> Result<bool, Memory>
+fn is_same_state(
+    one: &CellState,
+    other: &CellState,
+    at: Cell,
+    codes: &mut TwoCodes,
+) -> Result<bool, Memory>
     ensures { IfOk result (λ same. same ≡ same_state at one.now other.now) }
 {
-    if is_same_content(one, other, at)? {
+    if is_same_content(one, other, at, codes)? {
         Ok(is_same_rest(one, other))
     } else {
         Ok(false)
@@ -128,11 +167,17 @@ fn is_same_cell(cell: Cell, other: Cell) -> bool
 }
 
 // Whether two cells with their states pass the test of being one.
-fn pass_as_one(cell: Cell, one: &CellState, place: Cell, other: &CellState) -> Result<bool, Memory>
+fn pass_as_one(
+    cell: Cell,
+    one: &CellState,
+    place: Cell,
+    other: &CellState,
+    codes: &mut TwoCodes,
+) -> Result<bool, Memory>
     ensures { IfOk result (λ same. same ≡ same_entry cell one.now place other.now) }
 {
     if is_same_cell(cell, place) {
-        is_same_state(one, other, cell)
+        is_same_state(one, other, cell, codes)
     } else {
         Ok(false)
     }
@@ -144,13 +189,14 @@ pub fn is_same_entry(
     one: &CellState,
     place: Cell,
     other: &CellState,
+    codes: &mut TwoCodes,
 ) -> Result<bool, Memory>
     ensures { IfOk result (λ same. Decides same (entry cell one.now ≡ entry place other.now)) }
 {
     cell.is_on_sheet();
     is_written(one);
     is_written(other);
-    pass_as_one(cell, one, place, other)
+    pass_as_one(cell, one, place, other, codes)
 }
 
 // Whether no cell is left.
@@ -164,13 +210,14 @@ fn is_over(left: &mut Entries<'_>) -> bool
 pub fn are_same_cells(one: &Store, other: &Store) -> Result<bool, Memory>
     ensures { IfOk result (λ same. Decides same (one.now.cells ≡ other.now.cells)) }
 {
+    let mut codes = TwoCodes::new(one.alloc());
     let mut left = one.entries();
     let mut right = other.entries();
     while let Some(entry) = left.next() {
         let Some(facing) = right.next() else {
             return Ok(false);
         };
-        if !is_same_entry(entry.0, entry.1, facing.0, facing.1)? {
+        if !is_same_entry(entry.0, entry.1, facing.0, facing.1, &mut codes)? {
             return Ok(false);
         }
     }

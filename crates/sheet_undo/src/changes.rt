@@ -1,24 +1,93 @@
 // What cells of one store have otherwise than those of another, and changes that are made.
 ghost use Rattle.std.specs.Bool.{Decides};
-ghost use Rattle.std.specs.Prelude.{◌≡◌, None, Some, IfOk, OnErr, OnOk};
+ghost use Rattle.std.specs.Prelude.{◌≡◌, [], None, Some, IfOk, OnErr, OnOk};
 ghost use Rattle.std.specs.FinMap as map;
 ghost use Rattle.edit_log.specs.Changes.{all_changed, with_changes};
-ghost use Rattle.sheet_undo.specs.inner.Changes.{AreTaken};
+ghost use Rattle.sheet_undo.specs.inner.Changes.{gone_of, AreTaken};
 ghost use Rattle.sheet_undo.specs.inner.Keeping.{columns_or};
 
-use crate::cells::is_same_entry;
+use crate::cells::{TwoCodes, is_same_entry};
 use crate::columns::put_own_columns;
 use edit_log::{Change, make_all};
 use grid_address::Cell;
 use lics_text::Memory;
 use sheet_store::{CellState, Store};
+use std::alloc::Global;
+use std::marker::Model;
+
+/// Changes of cells: those that go, of which only the places are kept, and then the others.
+#[derive(Drop)]
+pub struct CellChanges {
+    gone: Vec<Cell>,
+    others: Vec<Change>,
+}
+
+impl Model for CellChanges {
+    ghost use Rattle.formula_tree.specs.contracts.formula.Formula as formula;
+    ghost use Rattle.std.specs.Coded.{codes};
+    ghost use Rattle.std.specs.Prelude.{◌++◌, List, Option};
+    ghost use Rattle.grid_address.specs.Place.{Place};
+    ghost use Rattle.sheet_store.specs.State.{CellState};
+    ghost use Rattle.sheet_undo.specs.inner.Changes.{gone_of};
+
+    ghost Value = { List (Place × Option CellState) };
+
+    ghost coded = { Prim.hlevel (codes, formula.the_row.coded) };
+
+    ghost view = { λ c. gone_of c.gone.items ++ c.others.items };
+}
+
+// Takes cells out of a store.
+fn clear_all(cells: &[Cell], store: &mut Store)
+    ensures { store.new ≡ with_changes store.old (gone_of cells.now) }
+{
+    for cell in cells {
+        store.clear(*cell);
+    }
+}
+
+impl CellChanges {
+    /// No changes.
+    pub fn none(alloc: Global) -> CellChanges
+        ensures { result ≡ [] }
+    {
+        CellChanges {
+            gone: Vec::new(alloc),
+            others: Vec::new(alloc),
+        }
+    }
+
+    /// The changes of a list.
+    pub fn listed(changes: Vec<Change>) -> CellChanges
+        ensures { result ≡ changes.items }
+    {
+        let alloc = *changes.allocator();
+        CellChanges {
+            gone: Vec::new(alloc),
+            others: changes,
+        }
+    }
+
+    /// Makes the changes in a store.
+    pub fn make(&self, store: &mut Store) -> Result<(), Memory>
+        ensures { OnOk result (store.new ≡ with_changes store.old self.now) }
+    {
+        clear_all(self.gone.as_slice(), store);
+        make_all(self.others.as_slice(), store)
+    }
+}
 
 // Whether a cell of a store has this state.
-pub fn has_state(store: &Store, cell: Cell, state: &CellState) -> Result<bool, Memory>
+pub fn has_state(
+    store: &Store,
+    cell: Cell,
+    state: &CellState,
+    codes: &mut TwoCodes,
+) -> Result<bool, Memory>
     ensures { IfOk result (λ same. Decides same (map.get store.now.cells cell ≡ Some state.now)) }
 {
     match store.get(cell) {
-        Some(found) => is_same_entry(cell, found, cell, state),
+        Some(found) => is_same_entry(cell, found, cell, state, codes),
         None => Ok(false),
     }
 }
@@ -31,42 +100,45 @@ pub fn is_absent(store: &Store, cell: Cell) -> bool
 }
 
 // The cells of the next store that the kept one hasn't, to be taken away.
-fn cells_gone(kept: &Store, next: &Store) -> Result<Vec<Change>, Memory>
-    ensures { IfOk result (λ gone. AreTaken kept.now.cells next.now.cells (all_changed next.now.cells gone.items)) }
+fn cells_gone(kept: &Store, next: &Store) -> Result<Vec<Cell>, Memory>
+    ensures { IfOk result (λ gone. AreTaken kept.now.cells next.now.cells
+        (all_changed next.now.cells (gone_of gone.items))) }
 {
     let mut gone = Vec::new(kept.alloc());
     let mut left = next.entries();
     while let Some(entry) = left.next() {
         if is_absent(kept, entry.0) {
-            gone.push(Change::gone(entry.0))?;
+            gone.push(entry.0)?;
         }
     }
+    gone.shrink_to_fit();
     Ok(gone)
 }
 
-// Adds the cells of the kept store that the next one hasn't in the same state.
-fn add_others(changes: &mut Vec<Change>, kept: &Store, next: &Store) -> Result<(), Memory>
-    requires { AreTaken kept.now.cells next.now.cells (all_changed next.now.cells changes.old.items) }
-    ensures { OnOk result (all_changed next.now.cells changes.new.items ≡ kept.now.cells) }
+// Beside the cells that go, those of the kept store that the next one hasn't in the same state.
+fn with_others(gone: Vec<Cell>, kept: &Store, next: &Store) -> Result<CellChanges, Memory>
+    requires { AreTaken kept.now.cells next.now.cells (all_changed next.now.cells (gone_of gone.items)) }
+    ensures { IfOk result (λ changes. all_changed next.now.cells changes ≡ kept.now.cells) }
 {
     kept.are_held();
+    let mut others = Vec::new(kept.alloc());
+    let mut codes = TwoCodes::new(kept.alloc());
     let mut left = kept.entries();
     while let Some(entry) = left.next() {
-        if !has_state(next, entry.0, entry.1)? {
-            changes.push(Change::of(entry.0, entry.1.copy(kept.alloc())?))?;
+        if !has_state(next, entry.0, entry.1, &mut codes)? {
+            others.push(Change::of(entry.0, entry.1.copy(kept.alloc())?))?;
         }
     }
-    Ok(())
+    others.shrink_to_fit();
+    Ok(CellChanges { gone, others })
 }
 
 /// The changes that make the next store's cells the kept ones, and no room beside them.
-pub fn changes_of(kept: &Store, next: &Store) -> Result<Vec<Change>, Memory>
-    ensures { IfOk result (λ changes. all_changed next.now.cells changes.items ≡ kept.now.cells) }
+pub fn changes_of(kept: &Store, next: &Store) -> Result<CellChanges, Memory>
+    ensures { IfOk result (λ changes. all_changed next.now.cells changes ≡ kept.now.cells) }
 {
-    let mut changes = cells_gone(kept, next)?;
-    add_others(&mut changes, kept, next)?;
-    changes.shrink_to_fit();
-    Ok(changes)
+    let gone = cells_gone(kept, next)?;
+    with_others(gone, kept, next)
 }
 
 /// Makes changes in a store, and gives it the columns that are kept, if some are. Where there is no memory, the changes

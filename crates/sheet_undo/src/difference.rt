@@ -5,9 +5,8 @@ ghost use Rattle.sheet_undo.specs.inner.Keeping.{before, columns_or, names_or, s
 ghost use Rattle.sheet_store.specs.Choices.{Choices};
 
 use crate::KeptState;
-use crate::changes::changes_of;
+use crate::changes::{CellChanges, changes_of};
 use crate::columns::KeptColumns;
-use edit_log::{Change, make_all};
 use lics_text::Memory;
 use range_names::Names;
 use sheet_store::{SavedSheet, Settings, Store};
@@ -18,7 +17,7 @@ use std::marker::Model;
 /// may differ, and the settings and the marks as they are.
 #[derive(Drop)]
 pub struct Difference {
-    changes: Vec<Change>,
+    changes: CellChanges,
     columns: Option<KeptColumns>,
     names: Option<Names>,
     settings: Settings,
@@ -37,7 +36,7 @@ impl Model for Difference {
     ghost coded = { Prim.hlevel (codes, map.code, formula.the_row.coded) };
 
     ghost view = { λ d. record {
-      changes = d.changes.items;
+      changes = d.changes;
       columns = d.columns;
       names = d.names;
       settings = d.settings;
@@ -69,7 +68,7 @@ impl Difference {
         } }
     {
         Difference {
-            changes: Vec::new(alloc),
+            changes: CellChanges::none(alloc),
             columns: None,
             names: None,
             settings,
@@ -80,7 +79,7 @@ impl Difference {
 
     /// The difference that has these parts.
     pub fn with(
-        changes: Vec<Change>,
+        changes: CellChanges,
         columns: Option<KeptColumns>,
         names: Option<Names>,
         settings: Settings,
@@ -88,7 +87,7 @@ impl Difference {
         stale: bool,
     ) -> Difference
         ensures { result ≡ record {
-          changes = changes.items;
+          changes = changes;
           columns = columns;
           names = names;
           settings = settings;
@@ -129,7 +128,7 @@ impl Difference {
         ensures { IfOk result (λ s. s ≡ columns_or self.now.columns (with_changes next self.now.changes)) }
     {
         let mut store = next;
-        make_all(self.changes.as_slice(), &mut store)?;
+        self.changes.make(&mut store)?;
         if let Some(columns) = &self.columns {
             columns.put(&mut store);
         }

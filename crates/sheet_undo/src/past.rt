@@ -14,10 +14,10 @@ use crate::KeptState;
 use crate::alike::{
     are_changes_made, are_columns_kept, are_names_kept, are_same_settings, is_same_store,
 };
-use crate::changes::{change_store, changes_of};
+use crate::changes::{CellChanges, change_store, changes_of};
 use crate::columns::{KeptColumns, columns_of};
 use crate::difference::Difference;
-use edit_log::{Change, EditLog};
+use edit_log::EditLog;
 use grid_address::Cell;
 use lics_text::Memory;
 use range_names::Names;
@@ -358,13 +358,13 @@ impl Past {
     }
 
     // The cells of the base that the store hasn't so, where all of the base is kept.
-    fn changes_in_whole(&self, store: &Store) -> Result<Vec<Change>, Memory>
+    fn changes_in_whole(&self, store: &Store) -> Result<CellChanges, Memory>
         ensures { IfOk result (λ changes. (whole : Grid) → self.now.whole ≡ Some whole →
-            all_changed store.now.cells changes.items ≡ whole.cells) }
+            all_changed store.now.cells changes ≡ whole.cells) }
     {
         match &self.whole {
             Some(whole) => changes_of(whole, store),
-            None => Ok(Vec::new(store.alloc())),
+            None => Ok(CellChanges::none(store.alloc())),
         }
     }
 
@@ -386,13 +386,13 @@ impl Past {
     }
 
     // What the base has otherwise than the sheet, with the changes that were made of its whole, and its own columns.
-    fn take_difference(&mut self, changes: Vec<Change>, columns: Option<KeptColumns>) -> Difference
+    fn take_difference(&mut self, changes: CellChanges, columns: Option<KeptColumns>) -> Difference
         requires settled { IsSettled self.old }
         requires columns { columns ≡ own_columns self.old.whole self.old.columns }
         ensures past { self.new ≡ with_nothing self.old }
         ensures difference { (store : Grid) (names : NameMap) (settings : Choices) (circular stale : Bool) →
             ((whole : Grid) → self.old.whole ≡ Some whole →
-            all_changed store.cells changes.items ≡ whole.cells) →
+            all_changed store.cells changes ≡ whole.cells) →
             before result (sheet_with store names settings circular stale) ≡ base self.old store names }
     {
         let is_whole = self.whole.is_some();
@@ -400,7 +400,11 @@ impl Past {
         let log = self.log.take();
         self.columns = None;
         self.whole = None;
-        let own = if is_whole { changes } else { log };
+        let own = if is_whole {
+            changes
+        } else {
+            CellChanges::listed(log)
+        };
         Difference::with(
             own,
             columns,
