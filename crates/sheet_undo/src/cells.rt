@@ -166,23 +166,6 @@ fn is_same_cell(cell: Cell, other: Cell) -> bool
     cell == other
 }
 
-// Whether two cells with their states pass the test of being one.
-fn pass_as_one(
-    cell: Cell,
-    one: &CellState,
-    place: Cell,
-    other: &CellState,
-    codes: &mut TwoCodes,
-) -> Result<bool, Memory>
-    ensures { IfOk result (λ same. same ≡ same_entry cell one.now place other.now) }
-{
-    if is_same_cell(cell, place) {
-        is_same_state(one, other, cell, codes)
-    } else {
-        Ok(false)
-    }
-}
-
 // Whether two cells with their states are one.
 pub fn is_same_entry(
     cell: Cell,
@@ -196,7 +179,11 @@ pub fn is_same_entry(
     cell.is_on_sheet();
     is_written(one);
     is_written(other);
-    pass_as_one(cell, one, place, other, codes)
+    if is_same_cell(cell, place) {
+        is_same_state(one, other, cell, codes)
+    } else {
+        Ok(false)
+    }
 }
 
 // Whether no cell is left.
