@@ -1,3 +1,4 @@
+pub mod Few
 pub mod Growth
 pub mod Kept
 pub mod Listing

@@ -1,10 +1,9 @@
 -- One formula more of those that are gone over from the last one on.
-use Rattle.std.specs.Prelude.{ℕ, suc, ◌≡◌, ◌≤◌, ◌-◌, Bool, true, false, cond, List, [], ◌∷◌, length, take, drop}
-use Rattle.std.proofs.Common.{sym, ◌∙◌, ap, subst, refl, inl, inr, arith, drop-cons, get_or}
+use Rattle.std.specs.Prelude.{ℕ, suc, ◌≡◌, ◌≤◌, ◌-◌, Bool, true, false, cond, List, length, take, drop}
+use Rattle.std.proofs.Common.{sym, ◌∙◌, ap, subst, refl, inl, inr, arith, get_or}
 use Rattle.std.proofs.lemmas.Bool.{cases_Bool, or_cases, true≢false}
 use Rattle.std.proofs.lemmas.Bool.Decides.{nat_tests}
 use Rattle.std.proofs.lemmas.List.{length-drop, take_all}
-use Rattle.cell_maps.specs.Numbers.{number_at, Numbers}
 use Rattle.cell_maps.specs.Sets.{has}
 use Rattle.grid_address.proofs.Places.{same_place_is, same_place_itself}
 use Rattle.grid_address.specs.Place.{is_within, same_place, Extent, InSheet, Place}
@@ -12,21 +11,18 @@ use Rattle.range_index.specs.Hulls.{in_hull}
 use Rattle.range_index.specs.declared.hull.Hull.{Hull}
 use Rattle.depend_graph.specs.Network.{reads, Network}
 use Rattle.depend_graph.specs.InOrder.{is_volatile_at, GoesInOrder, StandsFirst}
-use Rattle.depend_graph.specs.inner.Marked.{AreMarked}
+use Rattle.depend_graph.specs.inner.Marked.{mark_at, AreMarked}
+use Rattle.depend_graph.specs.declared.marks.Marks.{Marks}
+use Rattle.depend_graph.proofs.Few.{front}
 
 -- from a place on there are no more cells than are left there
 pub whole_rest : (cells : List Place) (n : ℕ) → take (length cells - n) (drop n cells) ≡ drop n cells
 whole_rest cells n = take_all (length cells - n) (drop n cells) (let h = length-drop n cells in omega (arith, h))
 
-front : (cells : List Place) (i n : ℕ) (x : Place) → i ≡ suc n → i ≤ length cells → x ≡ get_or cells n x
-    → drop n cells ≡ x ∷ drop i cells
-front cells i n x e le is = drop-cons cells n x (let h = le in let k = e in omega (arith, h, k))
-    ∙ ap (λ y. y ∷ drop (suc n) cells) (sym is) ∙ ap (λ k. x ∷ drop k cells) (sym e)
-
 -- with one cell more marked, and the hull around it, the cells from it on are marked
-pub marked_more : (cells : List Place) (i n : ℕ) (x : Place) (old new : Numbers) (hull wider : Hull) → i ≡ suc n
+pub marked_more : (cells : List Place) (i n : ℕ) (x : Place) (old new : Marks) (hull wider : Hull) → i ≡ suc n
     → i ≤ length cells → x ≡ get_or cells n x → InSheet x → AreMarked old hull (drop i cells)
-    → ((d : Place) → InSheet d → number_at new d ≡ cond (same_place x d) 1 (number_at old d))
+    → ((d : Place) → InSheet d → mark_at new d ≡ cond (same_place x d) 1 (mark_at old d))
     → ((d : Place) → in_hull hull d ≡ true → in_hull wider d ≡ true) → ((d : Place) → is_within
     (record { first = x; last = x }) d ≡ true → in_hull wider d ≡ true) → AreMarked new wider (drop n cells)
 marked_more cells i n x old new hull wider e le is inside all set held put d m = elim (or_cases (same_place d x)
@@ -35,14 +31,14 @@ marked_more cells i n x old new hull wider e le is inside all set held put d m =
           let here : x ≡ d = sym (same_place_is d x q) in (
             subst InSheet here inside,
             (
-              set d (subst InSheet here inside) ∙ ap (λ b. cond b 1 (number_at old d)) (ap (same_place x) (sym here)
+              set d (subst InSheet here inside) ∙ ap (λ b. cond b 1 (mark_at old d)) (ap (same_place x) (sym here)
                   ∙ same_place_itself x),
               subst (λ p. in_hull wider p ≡ true) here (put x (within_itself x)),
             ),
           )
       | inr k ↦
           let was = all d k in
-          (was.0, (set d was.0 ∙ either (same_place x d) (number_at old d) was.1.0, held d was.1.1))
+          (was.0, (set d was.0 ∙ either (same_place x d) (mark_at old d) was.1.0, held d was.1.1))
     ]
   where
     either : (b : Bool) (k : ℕ) → k ≡ 1 → cond b 1 k ≡ 1

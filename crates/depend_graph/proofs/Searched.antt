@@ -4,12 +4,12 @@ use Rattle.std.proofs.Common.{sym, ◌∙◌, ap, subst, inl, inr, arith, length
 use Rattle.std.specs.List.{AllByRecursion, IsDistinct}
 use Rattle.std.proofs.lemmas.Bool.{true≢false, false≢true, cases_Bool, false_from_ne_true, or_cases, or_left, or_right}
 use Rattle.std.proofs.lemmas.List.Folds.{list_any-append}
-use Rattle.cell_maps.specs.Numbers.{number_at}
 use Rattle.cell_maps.specs.Sets.{has}
 use Rattle.grid_address.proofs.Places.{same_place_is, same_place_itself, same_place_laws}
 use Rattle.grid_address.specs.Place.{same_place, InSheet, Place}
 use Rattle.depend_graph.specs.inner.Backward.{all, work_left, IsDeeper, IsSearched}
 use Rattle.depend_graph.specs.Network.{reads, Network}
+use Rattle.depend_graph.specs.inner.Marked.{mark_at}
 use Rattle.depend_graph.specs.inner.Within.{Within}
 use Rattle.depend_graph.specs.inner.Within.Within.{reader, seed}
 use Rattle.depend_graph.specs.declared.closure.Search.{Search}
@@ -58,7 +58,7 @@ apart_snoc (x ∷ xs) c d h = (
 
 module _ (g : Network) (cells : List Place) where
   -- nothing is met, and the cells are on the stack
-  pub searched_none : (s : Search) → ((d : Place) → number_at s.marks d ≡ 0) → s.met.items ≡ [] → s.left.items ≡ []
+  pub searched_none : (s : Search) → ((d : Place) → mark_at s.marks d ≡ 0) → s.met.items ≡ [] → s.left.items ≡ []
       → s.stack.items ≡ cells → IsSearched g cells s
   searched_none s marks met left stack = record {
     unmet = λ c i z. ap (λ xs. has same_place xs c) met;
@@ -89,8 +89,8 @@ module _ (g : Network) (cells : List Place) where
     in_old d m = ap (λ xs. has same_place xs d) st ∙ snoc_in rest c d m
 
     -- a cell is met
-    pub entered : number_at s.marks c ≡ 0
-        → ((d : Place) → InSheet d → number_at t.marks d ≡ cond (same_place c d) 1 (number_at s.marks d))
+    pub entered : mark_at s.marks c ≡ 0
+        → ((d : Place) → InSheet d → mark_at t.marks d ≡ cond (same_place c d) 1 (mark_at s.marks d))
         → t.met.items ≡ s.met.items ++ c ∷ [] → t.left.items ≡ s.left.items → IsDeeper g c rest t.stack.items
         → IsSearched g cells t
     entered zero_here marks met left deep = record {
@@ -135,11 +135,11 @@ module _ (g : Network) (cells : List Place) where
         one_not : ◌≡◌ {A = ℕ} 1 0 → ⊥
         one_not e = omega (arith, e)
 
-        at_here : (d : Place) → InSheet d → same_place c d ≡ true → number_at t.marks d ≡ 1
-        at_here d i e = marks d i ∙ ap (λ b. cond b 1 (number_at s.marks d)) e
+        at_here : (d : Place) → InSheet d → same_place c d ≡ true → mark_at t.marks d ≡ 1
+        at_here d i e = marks d i ∙ ap (λ b. cond b 1 (mark_at s.marks d)) e
 
-        at_other : (d : Place) → InSheet d → same_place c d ≡ false → number_at t.marks d ≡ number_at s.marks d
-        at_other d i e = marks d i ∙ ap (λ b. cond b 1 (number_at s.marks d)) e
+        at_other : (d : Place) → InSheet d → same_place c d ≡ false → mark_at t.marks d ≡ mark_at s.marks d
+        at_other d i e = marks d i ∙ ap (λ b. cond b 1 (mark_at s.marks d)) e
 
         met_in : (d : Place) → has same_place s.met.items d ≡ true → has same_place t.met.items d ≡ true
         met_in d m = ap (λ xs. has same_place xs d) met ∙ snoc_in s.met.items c d m
@@ -157,9 +157,9 @@ module _ (g : Network) (cells : List Place) where
         → has same_place s.met.items c ≡ true
         → ((d : Place) → has same_place s.left.items d ≡ true → has same_place t.left.items d ≡ true)
         → ((d : Place) → has same_place t.left.items d ≡ true → has same_place s.met.items d ≡ true)
-        → ((d : Place) → InSheet d → number_at t.marks d ≡ 0 → has same_place s.met.items d ≡ false)
-        → ((d : Place) → InSheet d → (number_at t.marks d ≡ 0 → ⊥) → has same_place s.met.items d ≡ true)
-        → ((d : Place) → InSheet d → (number_at t.marks d ≡ 0 → ⊥) → (number_at t.marks d ≡ 1 → ⊥)
+        → ((d : Place) → InSheet d → mark_at t.marks d ≡ 0 → has same_place s.met.items d ≡ false)
+        → ((d : Place) → InSheet d → (mark_at t.marks d ≡ 0 → ⊥) → has same_place s.met.items d ≡ true)
+        → ((d : Place) → InSheet d → (mark_at t.marks d ≡ 0 → ⊥) → (mark_at t.marks d ≡ 1 → ⊥)
         → has same_place t.left.items d ≡ true) → IsSearched g cells t
     shortened met stack here known more only unmet marked over = record {
       unmet = λ d i z. ap (λ xs. has same_place xs d) met ∙ unmet d i z;
@@ -199,8 +199,8 @@ module _ (g : Network) (cells : List Place) where
         ]
 
     -- a cell is left
-    pub left_now : (number_at s.marks c ≡ 0 → ⊥)
-        → ((d : Place) → InSheet d → number_at t.marks d ≡ cond (same_place c d) 2 (number_at s.marks d))
+    pub left_now : (mark_at s.marks c ≡ 0 → ⊥)
+        → ((d : Place) → InSheet d → mark_at t.marks d ≡ cond (same_place c d) 2 (mark_at s.marks d))
         → t.met.items ≡ s.met.items → t.left.items ≡ s.left.items ++ c ∷ [] → t.stack.items ≡ rest
         → IsSearched g cells t
     left_now some marks met left stack = shortened met stack (last c (same_place_itself c)) known more only
@@ -223,11 +223,11 @@ module _ (g : Network) (cells : List Place) where
         known : has same_place s.met.items c ≡ true
         known = h.marked c inside some
 
-        at_here : (d : Place) → InSheet d → same_place c d ≡ true → number_at t.marks d ≡ 2
-        at_here d i e = marks d i ∙ ap (λ b. cond b 2 (number_at s.marks d)) e
+        at_here : (d : Place) → InSheet d → same_place c d ≡ true → mark_at t.marks d ≡ 2
+        at_here d i e = marks d i ∙ ap (λ b. cond b 2 (mark_at s.marks d)) e
 
-        at_other : (d : Place) → InSheet d → same_place c d ≡ false → number_at t.marks d ≡ number_at s.marks d
-        at_other d i e = marks d i ∙ ap (λ b. cond b 2 (number_at s.marks d)) e
+        at_other : (d : Place) → InSheet d → same_place c d ≡ false → mark_at t.marks d ≡ mark_at s.marks d
+        at_other d i e = marks d i ∙ ap (λ b. cond b 2 (mark_at s.marks d)) e
 
         last : (d : Place) → same_place d c ≡ true → has same_place t.left.items d ≡ true
         last d q = ap (λ xs. has same_place xs d) left ∙ snoc_last s.left.items c d q
@@ -242,16 +242,16 @@ module _ (g : Network) (cells : List Place) where
         ]
 
     -- a cell that was left before is off the stack
-    pub passed : (number_at s.marks c ≡ 0 → ⊥) → (number_at s.marks c ≡ 1 → ⊥) → t.marks ≡ s.marks
+    pub passed : (mark_at s.marks c ≡ 0 → ⊥) → (mark_at s.marks c ≡ 1 → ⊥) → t.marks ≡ s.marks
         → t.met.items ≡ s.met.items → t.left.items ≡ s.left.items → t.stack.items ≡ rest → IsSearched g cells t
     passed some gone marks met left stack =
         shortened met stack (ap (λ xs. has same_place xs c) left ∙ h.over c inside some gone) (h.marked c inside some)
         (λ d m. ap (λ xs. has same_place xs d) left ∙ m)
         (λ d m. h.left d (sym (ap (λ xs. has same_place xs d) left) ∙ m))
-        (λ d i z. h.unmet d i (sym (ap (λ m. number_at m d) marks) ∙ z))
-        (λ d i n. h.marked d i (λ z. n (ap (λ m. number_at m d) marks ∙ z)))
+        (λ d i z. h.unmet d i (sym (ap (λ m. mark_at m d) marks) ∙ z))
+        (λ d i n. h.marked d i (λ z. n (ap (λ m. mark_at m d) marks ∙ z)))
         (λ d i n k. ap (λ xs. has same_place xs d) left
-        ∙ h.over d i (λ z. n (ap (λ m. number_at m d) marks ∙ z)) (λ z. k (ap (λ m. number_at m d) marks ∙ z)))
+        ∙ h.over d i (λ z. n (ap (λ m. mark_at m d) marks ∙ z)) (λ z. k (ap (λ m. mark_at m d) marks ∙ z)))
 
     -- a step that meets a new cell leaves less work, whatever it puts on the stack
     pub entered_less : IsSearched g cells t → t.met.items ≡ s.met.items ++ c ∷ [] → IsDeeper g c rest t.stack.items

@@ -1,15 +1,14 @@
 // What reaches cells through what formulas read, by a search that goes depth first.
 ghost use Rattle.std.specs.Prelude.{◌≡◌, ◌<◌, ◌^◌, ◌⊎◌, ◌↔◌, ◌++◌, ◌∷◌, [], List, cond, length, true, false, IfOk, OnOk};
-ghost use Rattle.cell_maps.specs.Numbers.{number_at};
 ghost use Rattle.cell_maps.specs.Sets.{has};
 ghost use Rattle.grid_address.specs.Place.{same_place, InSheet, Place};
 ghost use Rattle.depend_graph.specs.inner.Backward.{work_left, IsDeeper, IsSearched};
+ghost use Rattle.depend_graph.specs.inner.Marked.{mark_at};
 ghost use Rattle.depend_graph.specs.Network.{is_formula, reads, IsSpread, Network};
 ghost use Rattle.depend_graph.specs.inner.Within.{Within};
 
 use crate::Graph;
-use crate::marks::put_mark;
-use cell_maps::PlaceTable;
+use crate::marks::Marks;
 use grid_address::{Cell, CellList};
 use lics_text::Memory;
 use std::alloc::Global;
@@ -24,7 +23,7 @@ const LEFT: u32 = 2;
 // be gone into or left, the next one last.
 #[derive(Drop)]
 struct Search {
-    marks: PlaceTable,
+    marks: Marks,
     met: Vec<Cell>,
     left: Vec<Cell>,
     stack: Vec<Cell>,
@@ -54,7 +53,7 @@ impl Search {
         let mut stack = Vec::new(alloc);
         push_all(&mut stack, cells)?;
         Ok(Search {
-            marks: PlaceTable::new(alloc),
+            marks: Marks::new(alloc),
             met: Vec::new(alloc),
             left: Vec::new(alloc),
             stack,
@@ -63,13 +62,13 @@ impl Search {
 
     // Meets a cell: its readers are to be gone into before it is left.
     fn enter(&mut self, graph: &Graph, cell: Cell) -> Result<(), Memory>
-        ensures marks { OnOk result ((d : Place) → InSheet d → number_at self.new.marks d
-            ≡ cond (same_place cell d) 1 (number_at self.old.marks d)) }
+        ensures marks { OnOk result ((d : Place) → InSheet d → mark_at self.new.marks d
+            ≡ cond (same_place cell d) 1 (mark_at self.old.marks d)) }
         ensures met { OnOk result (self.new.met.items ≡ self.old.met.items ++ cell ∷ []) }
         ensures left { OnOk result (self.new.left.items ≡ self.old.left.items) }
         ensures stack { OnOk result (IsDeeper graph.now cell self.old.stack.items self.new.stack.items) }
     {
-        put_mark(&mut self.marks, cell, MET)?;
+        self.marks.put_mark(cell, MET)?;
         push(&mut self.met, cell)?;
         push(&mut self.stack, cell)?;
         graph.add_readers(cell, &mut self.stack)?;
@@ -78,13 +77,13 @@ impl Search {
 
     // Leaves a cell.
     fn leave(&mut self, cell: Cell) -> Result<(), Memory>
-        ensures marks { OnOk result ((d : Place) → InSheet d → number_at self.new.marks d
-            ≡ cond (same_place cell d) 2 (number_at self.old.marks d)) }
+        ensures marks { OnOk result ((d : Place) → InSheet d → mark_at self.new.marks d
+            ≡ cond (same_place cell d) 2 (mark_at self.old.marks d)) }
         ensures met { OnOk result (self.new.met.items ≡ self.old.met.items) }
         ensures left { OnOk result (self.new.left.items ≡ self.old.left.items ++ cell ∷ []) }
         ensures stack { OnOk result (self.new.stack.items ≡ self.old.stack.items) }
     {
-        put_mark(&mut self.marks, cell, LEFT)?;
+        self.marks.put_mark(cell, LEFT)?;
         push(&mut self.left, cell)?;
         Ok(())
     }
@@ -101,7 +100,7 @@ impl Search {
             return Ok(());
         };
         cell.is_on_sheet();
-        match self.marks.number_at(cell) {
+        match self.marks.mark_at(cell) {
             0 => {
                 self.enter(graph, cell)?;
                 Ok(())

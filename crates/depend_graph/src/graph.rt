@@ -16,7 +16,7 @@ use crate::readers::{add_readers, is_unread};
 use crate::slots::{Part, Slot, drop_part, has_offer, node_of, put_offer, side, turn};
 use crate::spread::{LastSpreads, is_of, list_of, order_kept, spread_of};
 use cell_maps::CellMap;
-use grid_address::{Cell, CellList, SpanList};
+use grid_address::{Cell, CellList};
 use lics_text::Memory;
 use std::alloc::Global;
 use std::marker::Model;
@@ -137,11 +137,10 @@ impl Graph {
 
     /// Puts a formula at a cell, and takes the cell's offer back. Where there is no memory, the formulas stay as they
     /// are.
-    pub fn set(&mut self, cell: Cell, reads: &SpanList, volatile: bool) -> Result<(), Memory>
-        ensures ok { OnOk result (self.new ≡ put self.old cell (record { reads = reads.now; volatile = volatile })) }
+    pub fn set(&mut self, cell: Cell, node: Node) -> Result<(), Memory>
+        ensures ok { OnOk result (self.new ≡ put self.old cell node) }
         ensures err { OnErr result (self.new.formulas ≡ self.old.formulas) }
     {
-        let node = node(self.alloc, reads, volatile)?;
         self.offer(cell, node)?;
         self.accept(cell);
         Ok(())
@@ -206,12 +205,4 @@ impl Graph {
         let is = is_in_order(self.alloc, self, cells)?;
         Ok(is)
     }
-}
-
-// What is kept of a formula, with a list of its own.
-fn node(alloc: Global, reads: &SpanList, volatile: bool) -> Result<Node, Memory>
-    ensures { IfOk result (λ n. n ≡ record { reads = reads.now; volatile = volatile }) }
-{
-    let reads = reads.copy(alloc)?;
-    Ok(Node { reads, volatile })
 }

@@ -9,7 +9,7 @@ ghost use Rattle.recalculation.specs.Reading.{is_formula_at, node_of, Matches};
 ghost use Rattle.recalculation.specs.inner.Graphs.{with_formula};
 
 use cell_maps::CellSet;
-use depend_graph::{Graph, insert_all};
+use depend_graph::{Graph, Node, insert_all};
 use formula_tree::ContentRef;
 use grid_address::Cell;
 use lics_text::Memory;
@@ -38,7 +38,8 @@ fn add_formula(graph: &mut Graph, store: &Store, cell: Cell) -> Result<(), Memor
         return Ok(());
     };
     let reads = formula.reads(cell)?;
-    graph.set(cell, &reads, formula.is_volatile())?;
+    let volatile = formula.is_volatile();
+    graph.set(cell, Node { reads, volatile })?;
     Ok(())
 }
 

@@ -3,10 +3,10 @@ use Rattle.std.specs.Prelude.{ℕ, ◌≡◌, ◌+◌, ◌-◌, ◌*◌, ◌^◌
 use Rattle.std.specs.FinMap.{entries}
 use Rattle.std.specs.List.{IsDistinct}
 use Rattle.std.specs.Map.{keys_of}
-use Rattle.cell_maps.specs.Numbers.{number_at}
 use Rattle.cell_maps.specs.Sets.{has}
 use Rattle.grid_address.specs.Place.{same_place, InSheet, Place}
 use Rattle.depend_graph.specs.Network.{reads, Network}
+use Rattle.depend_graph.specs.inner.Marked.{mark_at}
 use Rattle.depend_graph.specs.inner.Within.{Within}
 use Rattle.depend_graph.specs.declared.closure.Search.{Search}
 
@@ -16,9 +16,9 @@ all g = keys_of (entries g.formulas)
 
 -- what was met, what of it was left, and what is still on the stack
 pub record IsSearched (g : Network) (cells : List Place) (s : Search) : Type 0 where
-  pub unmet : (c : Place) → InSheet c → number_at s.marks c ≡ 0 → has same_place s.met.items c ≡ false
-  pub marked : (c : Place) → InSheet c → (number_at s.marks c ≡ 0 → ⊥) → has same_place s.met.items c ≡ true
-  pub over : (c : Place) → InSheet c → (number_at s.marks c ≡ 0 → ⊥) → (number_at s.marks c ≡ 1 → ⊥) →
+  pub unmet : (c : Place) → InSheet c → mark_at s.marks c ≡ 0 → has same_place s.met.items c ≡ false
+  pub marked : (c : Place) → InSheet c → (mark_at s.marks c ≡ 0 → ⊥) → has same_place s.met.items c ≡ true
+  pub over : (c : Place) → InSheet c → (mark_at s.marks c ≡ 0 → ⊥) → (mark_at s.marks c ≡ 1 → ⊥) →
       has same_place s.left.items c ≡ true
   pub begun : (c : Place) → has same_place s.met.items c ≡ true →
       (has same_place s.left.items c ≡ true) ⊎ (has same_place s.stack.items c ≡ true)

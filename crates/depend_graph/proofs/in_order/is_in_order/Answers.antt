@@ -12,8 +12,8 @@ stands_first-requires c =
     let cells : List Place = c.args.cells.now in
     let n : ℕ = c.back.next - 1 in
     let e : c.back.next ≡ suc n = let h = c.back-test.true in omega (arith, h) in
-    subst (AreMarked c.put_mark.new.marks c.put.new.self) (sym (whole_rest cells n))
-    (marked_more cells c.back.next n c.index-cells-next.result c.back.marked c.put_mark.new.marks c.back.hull
+    subst (AreMarked c.put_mark.new.self c.put.new.self) (sym (whole_rest cells n))
+    (marked_more cells c.back.next n c.index-cells-next.result c.back.marked c.put_mark.new.self c.back.hull
     c.put.new.self e c.back.invariant.within c.index-cells-next.is c.is_on_sheet.ensures c.back.invariant.marked
     c.in_ok-put_mark.ensures c.put.ensures.kept c.put.ensures.here)
 
@@ -26,7 +26,7 @@ back-preserved c =
     let within : n ≤ length cells = let h = c.back.invariant.within in omega (arith, h) in
     record {
       within = within;
-      marked = marked_more cells c.back.next n c.index-cells-next.result c.back.marked c.put_mark.new.marks c.back.hull
+      marked = marked_more cells c.back.next n c.index-cells-next.result c.back.marked c.put_mark.new.self c.back.hull
           c.put.new.self e c.back.invariant.within c.index-cells-next.is c.is_on_sheet.ensures c.back.invariant.marked
           c.in_ok-put_mark.ensures c.put.ensures.kept c.put.ensures.here;
       goes = goes_more c.args.graph.now cells c.back.next n c.index-cells-next.result e c.back.invariant.within

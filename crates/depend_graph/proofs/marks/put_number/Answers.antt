@@ -1,6 +1,6 @@
 use Rattle.std.proofs.Common.{ap, ◌∙◌, cond}
 use Rattle.grid_address.specs.Place.{same_place}
-use Rattle.depend_graph.proofs.marks.put_mark.Goals as goal
+use Rattle.depend_graph.proofs.marks.put_number.Goals as goal
 
 pub returns : goal.returns
 returns c =
