@@ -190,38 +190,7 @@ fn recalc_in_order<E: Means>(
     Ok(())
 }
 
-// Recalculation in natural order, which is found by a walk.
-fn recalc_walked<E: Means>(
-    store: &mut Store,
-    graph: &Graph,
-    dirty: &mut CellSet,
-    times: u8,
-    context: &ContextRef<'_>,
-    tally: &mut E,
-) -> Result<bool, Memory>
-    requires matches { Matches graph.now store.old }
-    requires sound { IsSound E.meaning (seen_context context.now) store.old (has same_place dirty.old.keys) }
-    requires times { 1 ≤ times }
-    ensures values { OnOk result (store.new
-        ≡ passes E.meaning (seen_context context.now) times (natural_order store.old).done store.old) }
-    ensures circular { IfOk result (λ c. c ≡ (natural_order store.old).circular) }
-    ensures stays { OnOk result (IsWhatStays store.new (has same_place dirty.new.keys)) }
-    ensures sound { IsSound E.meaning (seen_context context.now) store.new (has same_place dirty.new.keys) }
-    ensures contents { SameContents store.old store.new }
-    ensures outside { SameOutside (has same_place dirty.old.keys) store.old store.new }
-    ensures err { OnErr result (dirty.new.keys ≡ dirty.old.keys) }
-    ensures count { OnOk result (E.count tally.new
-        ≡ raised_by (length dirty.old.keys + (times - 1) * length dirty.new.keys) (E.count tally.old)) }
-{
-    let order = first_pass(store, graph, dirty, context, tally)?;
-    let circular = order.circular;
-    let (rest, again) = rest_of(store, graph, order)?;
-    further(store, again.as_slice(), times - 1, context, tally)?;
-    *dirty = rest;
-    Ok(circular)
-}
-
-// Recalculation in natural order.
+// Recalculation in natural order: along the dirty formulas where they stand in it, and else found by a walk.
 fn recalc_natural<E: Means>(
     store: &mut Store,
     graph: &Graph,
@@ -249,7 +218,11 @@ fn recalc_natural<E: Means>(
         recalc_in_order(store, dirty, times, context, tally)?;
         return Ok(false);
     }
-    let circular = recalc_walked(store, graph, dirty, times, context, tally)?;
+    let order = first_pass(store, graph, dirty, context, tally)?;
+    let circular = order.circular;
+    let (rest, again) = rest_of(store, graph, order)?;
+    further(store, again.as_slice(), times - 1, context, tally)?;
+    *dirty = rest;
     Ok(circular)
 }
 
