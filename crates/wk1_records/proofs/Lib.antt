@@ -1,3 +1,4 @@
 pub mod BitsRead
 pub mod Fronts
 pub mod Marks
+pub mod Words

@@ -1,6 +1,7 @@
 // What a record says.
 ghost use Rattle.std.specs.Int.{from_le_bytes, w64};
-ghost use Rattle.std.specs.Prelude.{◌≡◌, ◌≤◌, ◌<◌, ◌+◌, ◌==◌, not, IfSome, IfNone, IfOk, Ok, Err, true, false, length, drop, take};
+ghost use Rattle.std.specs.Prelude.{◌≡◌, ◌≤◌, ◌<◌, ◌+◌, ◌==◌, not, IfSome, IfNone, IfOk, Ok, Err, Some, true, false, List, ℕ, length, drop, nat_le, take};
+ghost use Rattle.std.specs.List.{list_all};
 ghost use Rattle.fixed_value.specs.Doubles.{double_of};
 ghost use Rattle.formula_tree.specs.declared.value.Content.TheVariants as content;
 ghost use Rattle.formula_tree.specs.declared.value.Value.TheVariants as value;
@@ -8,21 +9,23 @@ ghost use Rattle.formula_tree.specs.Ranges.{is_text};
 ghost use Rattle.formula_tree.specs.Tree.{call, no_trees};
 ghost use Rattle.wk1_formula.specs.Stack.{tree_in};
 ghost use Rattle.wk1_formula.specs.Reading.{before_zero, short_at, short_value};
+ghost use Rattle.lics_text.specs.Ascii as ascii;
 ghost use Rattle.lics_text.specs.Prefixes.{prefix_of};
 ghost use Rattle.sheet_store.specs.Choices.{is_global_prefix};
 ghost use Rattle.wk1_records.specs.Answers.{Gives};
 ghost use Rattle.wk1_records.specs.Meanings.{byte_at, cell_of, code_in, double_at, formula_state, constant, global_prefix, is_inside, is_span, number_state, stored_value, is_width, label_of, label_state, numbered, place_at, pointer_of, state_of, text_entry, width_entry, window_entry};
 ghost use Rattle.wk1_records.specs.declared.entry.Entry.TheVariants as entry;
+ghost use Rattle.wk1_records.specs.declared.fault.Wk1Fault.TheVariants as fault;
 
 use crate::lengths::{CODE, CODE_LENGTH, HEAD};
 use crate::{Entry, INTEGER_LENGTH, NUMBER_LENGTH, ReadCodes, Wk1Fault};
 use fixed_value::{DoubleRead, Fixed, from_double_bits};
 use formula_tree::{Expr, ExprList, Formula, Function, Value};
 use grid_address::{COLUMNS, Cell, Format, ROWS, Span};
-use lics_text::{LabelPrefix, Memory, Text};
+use lics_text::{LabelPrefix, MAX_LEN, Memory, Text};
 use sheet_store::{CellState, MOST_WIDTH};
 use std::alloc::Global;
-use wk1_formula::{CodeFault, before_zero, bytes_from, first_long, is_text, short_at, short_value};
+use wk1_formula::{CodeFault, bytes_from, first_long, short_at, short_value};
 
 /// The width of the columns where a file tells none.
 const DEFAULT_WIDTH: u8 = 9;
@@ -143,16 +146,44 @@ pub fn integer_in(body: &[u8], cell: Cell) -> Entry
     Entry::State(cell, CellState::number(number, format_in(body)))
 }
 
+// The bytes before the first 00, where none of them is below 32. Where there is no 00, or one before it is below 32,
+// there is none, and neither a text nor a label.
+fn words(bytes: &[u8]) -> Option<&[u8]>
+    ensures some { IfSome result (λ t. before_zero bytes.now ≡ Some t.now) }
+    ensures words { IfSome result (λ t. list_all (λ b. nat_le ascii.space b) t.now ≡ true) }
+    ensures none { IfNone result ((n : ℕ) (body : List ℕ) →
+        (text_entry n body (before_zero bytes.now) ≡ Err (fault.BadText n))
+        × (label_state n body (before_zero bytes.now) ≡ Err (fault.BadText n))) }
+{
+    for at in 0..bytes.len() {
+        if bytes[at] < b' ' {
+            if bytes[at] == 0 {
+                return Some(&bytes[..at]);
+            }
+            return None;
+        }
+    }
+    None
+}
+
+// Whether bytes of which none is below 32 are as few as those of a text.
+fn is_short(bytes: &[u8]) -> bool
+    requires { list_all (λ b. nat_le ascii.space b) bytes.now ≡ true }
+    ensures { result ≡ is_text bytes.now }
+{
+    bytes.len() <= MAX_LEN
+}
+
 // What the record of a text says that is a formula's value.
 pub fn text_in(alloc: Global, body: &[u8], number: u32, cell: Cell) -> Result<Entry, Wk1Fault>
     requires length { HEAD ≤ length body.now }
     requires cell { cell ≡ cell_of body.now }
     ensures { Gives result (text_entry number body.now (before_zero (drop HEAD body.now))) }
 {
-    let Some(bytes) = before_zero(bytes_from(body, HEAD)) else {
+    let Some(bytes) = words(bytes_from(body, HEAD)) else {
         return Err(Wk1Fault::BadText(number));
     };
-    if !is_text(bytes) {
+    if !is_short(bytes) {
         return Err(Wk1Fault::BadText(number));
     }
     match Text::copy_of(alloc, bytes) {
@@ -176,6 +207,17 @@ fn label_prefix(bytes: &[u8]) -> (LabelPrefix, usize)
     }
 }
 
+// A label's prefix and its text, of bytes of which none is below 32.
+fn behind_prefix(bytes: &[u8]) -> (LabelPrefix, &[u8])
+    requires { list_all (λ b. nat_le ascii.space b) bytes.now ≡ true }
+    ensures prefix { result.0 ≡ (label_of bytes.now).0 }
+    ensures rest { result.1.now ≡ (label_of bytes.now).1 }
+    ensures words { list_all (λ b. nat_le ascii.space b) result.1.now ≡ true }
+{
+    let (prefix, count) = label_prefix(bytes);
+    (prefix, bytes_from(bytes, count))
+}
+
 // The state of a label, of bytes that are a text's.
 fn label_of(
     alloc: Global,
@@ -197,12 +239,11 @@ pub fn label_in(alloc: Global, body: &[u8], number: u32, cell: Cell) -> Result<E
     requires cell { cell ≡ cell_of body.now }
     ensures { Gives result (label_state number body.now (before_zero (drop HEAD body.now))) }
 {
-    let Some(bytes) = before_zero(bytes_from(body, HEAD)) else {
+    let Some(bytes) = words(bytes_from(body, HEAD)) else {
         return Err(Wk1Fault::BadText(number));
     };
-    let (prefix, count) = label_prefix(bytes);
-    let text = bytes_from(bytes, count);
-    if !is_text(text) {
+    let (prefix, text) = behind_prefix(bytes);
+    if !is_short(text) {
         return Err(Wk1Fault::BadText(number));
     }
     match label_of(alloc, body, prefix, text) {
