@@ -10,7 +10,8 @@ use Rattle.grid_address.specs.Place.{same_place, Place}
 use Rattle.formula_tree.specs.Tree.{Tree}
 use Rattle.depend_graph.specs.Network as network
 use Rattle.depend_graph.proofs.Spreads.{spread_along}
-use Rattle.depend_graph.specs.Network.{IsSpread, Network}
+use Rattle.depend_graph.specs.Network.{reads, IsSpread, Network, ReachesCell}
+use Rattle.depend_graph.specs.Network.ReachesCell.{direct, through}
 use Rattle.cell_maps.specs.Sets.{has, insert_key}
 use Rattle.sheet_store.specs.Grid.{is_formula, is_kept, put_state, Grid}
 use Rattle.sheet_store.specs.State.{CellState}
@@ -18,7 +19,7 @@ use Rattle.recalculation.specs.Context.{formula_at, formula_in}
 use Rattle.recalculation.specs.Reading.{is_formula_at, node_of, Matches}
 use Rattle.sheet_edits.proofs.Reaching.{accepted_told, dropped_told, formula_beside, formula_here, formula_in_is}
 use Rattle.sheet_edits.proofs.Reaching.{matches_written, reaching_formula, to_new, to_old}
-use Rattle.sheet_edits.specs.Edits.{just, AreDirtied, IsDirtied}
+use Rattle.sheet_edits.specs.Edits.{just, AreDirtied, AreUpward, IsDirtied}
 use Rattle.sheet_edits.specs.inner.Settling.{kept_at, settled, WithReached}
 
 only_one : (c cell : Place) → has same_place (cell ∷ []) c ≡ true → same_place c cell ≡ true
@@ -112,18 +113,18 @@ inserted_members keys k c = elim (has same_place keys k) as (λ b. has same_plac
     ] refl
 
 -- what the set has after the growths
-pub with_reached : (n o : Network) → o.formulas ≡ n.formulas → (cell : Place) (old mid reached : List Place)
+pub with_reached : (n : Network) (cell : Place) (old mid reached : List Place)
     → ((c : Place) → has same_place mid c ≡ (has same_place old c || has same_place reached c))
-    → ((c : Place) → (has same_place reached c ≡ true) ↔ IsSpread o (cell ∷ []) c)
+    → ((c : Place) → (has same_place reached c ≡ true) ↔ IsSpread n (cell ∷ []) c)
     → WithReached n (cell ∷ []) (just cell) old (insert_key same_place mid cell)
-with_reached n o e cell old mid reached h r c = (forth, back)
+with_reached n cell old mid reached h r c = (forth, back)
   where
     forth : has same_place (insert_key same_place mid cell) c ≡ true
         → (has same_place old c ≡ true) ⊎ ((same_place c cell ≡ true) ⊎ IsSpread n (cell ∷ []) c)
     forth m = elim ((inserted_members mid cell c).0 m) [
       | inl k ↦ elim (or_cases _ _ (sym (h c) ∙ k)) [
         | inl q ↦ inl q
-        | inr q ↦ inr (inr (spread_along o n e (cell ∷ []) c ((r c).0 q)))
+        | inr q ↦ inr (inr ((r c).0 q))
       ]
       | inr k ↦ inr (inl k)
     ]
@@ -134,9 +135,57 @@ with_reached n o e cell old mid reached h r c = (forth, back)
       | inl q ↦ inl (h c ∙ or_left _ _ q)
       | inr k ↦ elim k [
         | inl q ↦ inr q
-        | inr q ↦ inl (h c ∙ or_right _ _ ((r c).1 (spread_along n o (sym e) (cell ∷ []) c q)))
+        | inr q ↦ inl (h c ∙ or_right _ _ ((r c).1 q))
       ]
     ])
+
+-- where all that read the cell are in the set, and all that read one of it are, so is all that reaches the cell
+module _ (n : Network) (cell : Place) (old : List Place) (up : AreUpward n (has same_place old))
+    (readers : (d : Place) → reads n d cell ≡ true → has same_place old d ≡ true) where
+  reaching_in : {c d : Place} → ReachesCell (reads n) c d → same_place d cell ≡ true → has same_place old c ≡ true
+  reaching_in {c} {d} (direct r) e = readers c (subst (λ (x : Place). reads n c x ≡ true) (same_place_is d cell e) r)
+  reaching_in {c} {d} (through {e = x} r q) e = up c x r (reaching_in q e)
+
+  -- then the set has what the growths would give it once it has the cell
+  pub with_cell : WithReached n (cell ∷ []) (just cell) old (insert_key same_place old cell)
+  with_cell c = (forth, back)
+    where
+      forth : has same_place (insert_key same_place old cell) c ≡ true
+          → (has same_place old c ≡ true) ⊎ ((same_place c cell ≡ true) ⊎ IsSpread n (cell ∷ []) c)
+      forth m = elim ((inserted_members old cell c).0 m) [ inl k ↦ inl k | inr k ↦ inr (inl k) ]
+
+      back : (has same_place old c ≡ true) ⊎ ((same_place c cell ≡ true) ⊎ IsSpread n (cell ∷ []) c)
+          → has same_place (insert_key same_place old cell) c ≡ true
+      back a = (inserted_members old cell c).1 (elim a [
+        | inl q ↦ inl q
+        | inr k ↦ elim k [
+          | inl q ↦ inr q
+          | inr p ↦ elim p.way [
+            | inl h ↦ inr (only_one c cell h)
+            | inr q ↦ inl (reaching_in q.reached (only_one q.cell cell q.among))
+          ]
+        ]
+      ])
+
+-- graphs with the same formulas
+module _ (n o : Network) (e : o.formulas ≡ n.formulas) where
+  -- tell the same of what reads one of some cells
+  pub upward_along : (these : Place → Bool) → AreUpward n these → AreUpward o these
+  upward_along these up c d r = up c d (sym (ap (λ f. network.holds (get f c) d) e) ∙ r)
+
+  -- and add the same
+  pub reached_along : (cells : List Place) (given : Place → Bool) (old new : List Place)
+      → WithReached o cells given old new → WithReached n cells given old new
+  reached_along cells given old new w c = (
+    λ m. elim ((w c).0 m) [
+      | inl q ↦ inl q
+      | inr k ↦ elim k [ inl q ↦ inr (inl q) | inr q ↦ inr (inr (spread_along o n e cells c q)) ]
+    ],
+    λ a. (w c).1 (elim a [
+      | inl q ↦ inl q
+      | inr k ↦ elim k [ inl q ↦ inr (inl q) | inr q ↦ inr (inr (spread_along n o (sym e) cells c q)) ]
+    ]),
+  )
 
 module _ (g : Grid) (cell : Place) (s : CellState) (keeps : is_formula s.content ≡ true → is_kept s ≡ true)
     (n o : Network) (m : Matches n g) (same : o.formulas ≡ n.formulas) where

@@ -7,7 +7,7 @@ use Rattle.formula_tree.specs.declared.value.Content.{Content}
 use Rattle.formula_tree.specs.declared.value.Content.TheVariants as content
 use Rattle.formula_tree.specs.declared.value.Value.{Value}
 use Rattle.formula_tree.specs.declared.value.Value.TheVariants as value
-use Rattle.depend_graph.specs.Network.{ReachesCell}
+use Rattle.depend_graph.specs.Network.{reads, Network, ReachesCell}
 use Rattle.sheet_store.specs.Choices.{Choices}
 use Rattle.sheet_store.specs.Grid.{is_formula, put_state, Grid}
 use Rattle.sheet_store.specs.State.{CellState}
@@ -51,6 +51,10 @@ pub record IsDirtied (new : Grid) (old written : Place → Bool) (c : Place) : T
 -- these are dirty after the edit, and no other cell is
 abbrev pub AreDirtied : Grid → (Place → Bool) → (Place → Bool) → (Place → Bool) → Type 0
 AreDirtied new old written now = (c : Place) → (now c ≡ true) ↔ IsDirtied new old written c
+
+-- a formula that reads one of these, as the graph tells it, is one of these
+abbrev pub AreUpward : Network → (Place → Bool) → Type 0
+AreUpward n these = (c d : Place) → reads n c d ≡ true → these d ≡ true → these c ≡ true
 
 -- in Manual mode a formula that a line spells is evaluated once
 abbrev pub is_evaluated : Choices → Content → Bool

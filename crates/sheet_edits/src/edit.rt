@@ -2,13 +2,13 @@
 ghost use Rattle.std.specs.Prelude.{◌≡◌, ◌↔◌, ◌∷◌, [], ◌||◌, IfOk, OnOk, OnErr, false, true};
 ghost use Rattle.std.specs.FinMap as map;
 ghost use Rattle.grid_address.specs.Place.{same_place, Place};
-ghost use Rattle.depend_graph.specs.Network.{IsSpread};
+ghost use Rattle.depend_graph.specs.Network.{reads, IsSpread};
 ghost use Rattle.depend_graph.specs.Sets.{Extends};
 ghost use Rattle.cell_maps.specs.Sets.{has};
 ghost use Rattle.recalculation.specs.Context.{formula_in};
 ghost use Rattle.recalculation.specs.Reading.{is_formula_at, node_of, Matches};
 ghost use Rattle.sheet_store.specs.Grid.{is_formula, is_kept, put_state, IsSound};
-ghost use Rattle.sheet_edits.specs.Edits.{just, AreDirtied};
+ghost use Rattle.sheet_edits.specs.Edits.{just, AreDirtied, AreUpward};
 ghost use Rattle.sheet_edits.specs.inner.Settling.{kept_at, settled, WithReached};
 
 use cell_maps::CellSet;
@@ -70,6 +70,56 @@ fn reached_from(
     Ok(list)
 }
 
+// Whether all of the cells are in the set.
+fn are_in(set: &CellSet, cells: &[Cell]) -> bool
+    ensures { result ≡ true → (d : Place) → has same_place cells.now d ≡ true → has same_place set.now.keys d ≡ true }
+{
+    for cell in cells {
+        if !set.contains(*cell) {
+            return false;
+        }
+    }
+    true
+}
+
+// Whether all formulas that read the cell are known to be in the set.
+fn are_readers_in(alloc: Global, graph: &Graph, set: &CellSet, cell: Cell) -> Result<bool, Memory>
+    ensures { IfOk result (λ b. b ≡ true →
+        (d : Place) → reads graph.now d cell ≡ true → has same_place set.now.keys d ≡ true) }
+{
+    if set.len() == 0 {
+        return Ok(false);
+    }
+    let mut readers = Vec::new(alloc);
+    graph.add_readers(cell, &mut readers)?;
+    Ok(are_in(set, readers.as_slice()))
+}
+
+// Adds a cell, and the formulas that reach it. Where all that read it are dirty, so is all that reaches it, and it is
+// not looked for.
+fn insert_reached(
+    alloc: Global,
+    graph: &mut Graph,
+    dirty: &mut CellSet,
+    cell: Cell,
+    is_formula: bool,
+) -> Result<(), Memory>
+    requires { AreUpward graph.old (has same_place dirty.old.keys) }
+    ensures same { graph.new ≡ graph.old }
+    ensures extends { Extends dirty.old.keys dirty.new.keys }
+    ensures dirty { OnOk result (WithReached graph.old (cell ∷ []) (just cell) dirty.old.keys dirty.new.keys) }
+{
+    let is_known = are_readers_in(alloc, graph, dirty, cell)?;
+    if is_known {
+        insert(dirty, cell)?;
+        return Ok(());
+    }
+    let reached = reached_from(alloc, graph, cell, is_formula)?;
+    insert_all(dirty, reached.as_slice())?;
+    insert(dirty, cell)?;
+    Ok(())
+}
+
 // All that takes memory: the formula is offered, what it will make dirty is added, and the state is put.
 pub fn prepare(
     store: &mut Store,
@@ -78,7 +128,8 @@ pub fn prepare(
     cell: Cell,
     state: CellState,
 ) -> Result<(), Memory>
-    requires { IsSound state }
+    requires sound { IsSound state }
+    requires upward { AreUpward graph.old (has same_place dirty.old.keys) }
     ensures store { OnOk result (store.new ≡ put_state store.old cell state) }
     ensures store_err { OnErr result (store.new ≡ store.old) }
     ensures formulas { graph.new.formulas ≡ graph.old.formulas }
@@ -87,9 +138,7 @@ pub fn prepare(
     ensures dirty { OnOk result (WithReached graph.old (cell ∷ []) (just cell) dirty.old.keys dirty.new.keys) }
 {
     offer(graph, cell, node_of(cell, &state)?)?;
-    let reached = reached_from(store.alloc(), graph, cell, state.is_formula())?;
-    insert_all(dirty, reached.as_slice())?;
-    insert(dirty, cell)?;
+    insert_reached(store.alloc(), graph, dirty, cell, state.is_formula())?;
     store.put(cell, state)?;
     Ok(())
 }
@@ -122,6 +171,7 @@ pub fn write_cell(
     requires kept { is_formula state.content ≡ true → is_kept state ≡ true }
     requires matches { Matches graph.old store.old }
     requires only { (c : Place) → has same_place dirty.old.keys c ≡ true → is_formula_at store.old c ≡ true }
+    requires upward { AreUpward graph.old (has same_place dirty.old.keys) }
     ensures store { OnOk result (store.new ≡ put_state store.old cell state) }
     ensures dirty { OnOk result
         (AreDirtied store.new (has same_place dirty.old.keys) (just cell) (has same_place dirty.new.keys)) }

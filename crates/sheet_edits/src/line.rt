@@ -8,7 +8,7 @@ ghost use Rattle.recalculation.specs.Context.{seen_context};
 ghost use Rattle.recalculation.specs.Passes.{evaluated, raised_by};
 ghost use Rattle.recalculation.specs.Reading.{is_formula_at, Matches};
 ghost use Rattle.sheet_store.specs.Grid.{is_formula, is_kept, put_state, IsSound};
-ghost use Rattle.sheet_edits.specs.Edits.{just, AreDirtied};
+ghost use Rattle.sheet_edits.specs.Edits.{just, AreDirtied, AreUpward};
 ghost use Rattle.sheet_edits.specs.inner.Parts.{IsSame};
 ghost use Rattle.sheet_edits.specs.inner.Undoing.{put_back, IsOldState};
 
@@ -63,6 +63,7 @@ pub fn write_evaluated<E: Means>(
     requires matches { Matches parts.old.graph.now parts.old.store.now }
     requires only { let dirty = parts.old.dirty.now.keys in
         (c : Place) → has same_place dirty c ≡ true → is_formula_at parts.old.store.now c ≡ true }
+    requires upward { AreUpward parts.old.graph.now (has same_place parts.old.dirty.now.keys) }
     ensures store { OnOk result (parts.new.store.now
         ≡ evaluated E.meaning (seen_context context.now) (put_state parts.old.store.now cell state) cell) }
     ensures dirty { OnOk result

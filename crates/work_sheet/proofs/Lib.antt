@@ -8,3 +8,4 @@ pub mod Noted
 pub mod OneWork
 pub mod Reformatted
 pub mod Undone
+pub mod Upward

@@ -1,21 +1,15 @@
-use Rattle.std.specs.Prelude.{◌≡◌, ◌↔◌, ◌||◌, [], ◌∷◌, true, List}
-use Rattle.std.proofs.Common.{ap, subst, sym, ◌∙◌}
-use Rattle.grid_address.specs.Place.{same_place, Place}
-use Rattle.depend_graph.specs.Network.{IsSpread}
+use Rattle.sheet_edits.proofs.Dirtied.{reached_along, upward_along}
+use Rattle.std.specs.Prelude.{[], ◌∷◌}
+use Rattle.grid_address.specs.Place.{same_place}
 use Rattle.cell_maps.specs.Sets.{has}
-use Rattle.sheet_edits.proofs.Dirtied.{with_reached}
 use Rattle.sheet_edits.specs.Edits.{just}
-use Rattle.sheet_edits.specs.inner.Settling.{WithReached}
 use Rattle.sheet_edits.proofs.edit.prepare.Goals as goal
+
+pub insert_reached-requires : goal.insert_reached-requires
+insert_reached-requires c = upward_along c.args.graph.now c.offer.new.graph c.offer.ensures.formulas
+    (has same_place c.args.dirty.now.keys) c.requires.upward
 
 pub returns-clause-dirty : goal.returns-clause-dirty
 returns-clause-dirty c =
-    let old : List Place = c.args.dirty.now.keys in
-    let mid : List Place = c.insert_all.new.set.keys in
-    subst (λ (ks : List Place). WithReached c.args.graph.now (c.args.cell ∷ []) (just c.args.cell) old ks)
-    (sym c.in_ok-insert.ensures.keys)
-    (with_reached c.args.graph.now c.offer.new.graph c.offer.ensures.formulas c.args.cell old mid
-    c.in_ok-reached.reached
-    (λ x. c.in_ok-insert_all.ensures.members x
-    ∙ ap (λ ks. has same_place old x || has same_place ks x) c.as_slice.ensures)
-    c.in_ok-reached.ensures.list)
+    reached_along c.args.graph.now c.offer.new.graph c.offer.ensures.formulas (c.args.cell ∷ []) (just c.args.cell)
+    c.args.dirty.now.keys c.insert_reached.new.dirty.keys c.in_ok-insert_reached.ensures.dirty

@@ -4,10 +4,15 @@ use Rattle.work_sheet.proofs.Held.{kept_edit}
 use Rattle.std.proofs.Common.{ap, rules, ◌∙◌}
 use Rattle.work_sheet.proofs.Noted.{one_changed}
 use Rattle.work_sheet.specs.Sheets.{Worksheet}
+use Rattle.work_sheet.proofs.Upward.{upward}
 use Rattle.work_sheet.proofs.sheet.WorksheetOf.enter.Goals as goal
 
 pub write_cell-requires-clause-only : goal.write_cell-requires-clause-only
 write_cell-requires-clause-only g c = c.self.invariant.only
+
+pub write_cell-requires-clause-upward : goal.write_cell-requires-clause-upward
+write_cell-requires-clause-upward g c = upward g.E.Means.meaning c.self.inside.graph c.self.inside.store
+    c.self.inside.dirty.keys c.self.inside.settings.order c.self.inside.names c.self.inside.settings c.self.invariant
 
 pub invariant_of-self-in-Ok : goal.invariant_of-self-in-Ok
 invariant_of-self-in-Ok g c =

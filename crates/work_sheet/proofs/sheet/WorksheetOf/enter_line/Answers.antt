@@ -7,7 +7,12 @@ use Rattle.work_sheet.proofs.Held.{kept_line}
 use Rattle.std.proofs.Common.{ap, ◌∙◌}
 use Rattle.work_sheet.proofs.Noted.{line_changed}
 use Rattle.work_sheet.specs.Sheets.{Worksheet}
+use Rattle.work_sheet.proofs.Upward.{upward}
 use Rattle.work_sheet.proofs.sheet.WorksheetOf.enter_line.Goals as goal
+
+pub write_evaluated-requires-clause-upward : goal.write_evaluated-requires-clause-upward
+write_evaluated-requires-clause-upward g c = upward g.E.Means.meaning c.self.inside.graph c.self.inside.store
+    c.self.inside.dirty.keys c.self.inside.settings.order c.self.inside.names c.self.inside.settings c.self.invariant
 
 pub invariant_of-self-in-Ok : goal.invariant_of-self-in-Ok
 invariant_of-self-in-Ok g c =
