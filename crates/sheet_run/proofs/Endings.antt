@@ -1,47 +1,35 @@
 -- How a run with options ends.
-use Rattle.std.proofs.Common.{◌≡◌, ℕ, zero, suc, ◌+◌, Bool, List, [], ◌∷◌, ◌++◌, length, map, Option, Some, Err, refl}
+use Rattle.std.proofs.Common.{◌≡◌, ℕ, zero, suc, ◌+◌, Bool, List, [], ◌∷◌, ◌++◌, length, map, Err, refl}
 use Rattle.std.proofs.Common.{sym, ap, ◌∙◌, subst, arith, inl, inr, length-append}
 use Rattle.std.specs.Prelude.{nat_lt}
-use Rattle.std.specs.List.{filter}
 use Rattle.std.proofs.lemmas.List.{length-map}
 use Rattle.std.proofs.lemmas.Bool.{lt-ltb, le-ltb}
-use Rattle.command_desk.specs.Desks.{of_desk, Desk}
-use Rattle.command_desk.specs.declared.desk.Desk as declared
-use Rattle.commands_file.specs.Calls.{HaveAnswered, ShelfView}
-use Rattle.outside_world.specs.Clock.{TakesReading}
 use Rattle.serial_date.specs.declared.moment.Moment.{Moment}
-use Rattle.session_core.specs.Machine.{begun as fresh_running, begun_with, Follows, SessionView, State}
-use Rattle.session_core.specs.Step.{loaded}
+use Rattle.session_core.specs.Machine.{SessionView, State}
 use Rattle.work_sheet.proofs.OneWork.{worked_both}
-use Rattle.work_sheet.specs.Did.{work_of}
 use Rattle.work_sheet.specs.Work.{no_work, HasWorked}
 use Rattle.screen_show.specs.Display.{View}
-use Rattle.screen_show.specs.declared.display.DisplayKind.{DisplayKind}
-use Rattle.sheet_run.specs.Displays.{HasClosed, HasFailed, Sent, Watched, same_kind, views_of}
+use Rattle.sheet_run.specs.Displays.{HasClosed, HasFailed, Sent, Watched, views_of}
 use Rattle.sheet_run.specs.inner.Driving.{HasDriven, IsAfter, LeavesState}
 use Rattle.sheet_run.specs.Run.{HasEnded}
 use Rattle.sheet_run.specs.Notes.{LeavesSession, Tells, Tried, ending_note, ending_status, file_note, file_status}
 use Rattle.sheet_run.specs.Notes.{memory_note, session_notes}
 use Rattle.sheet_run.specs.inner.Telling.{ToldRefused}
-use Rattle.sheet_run.specs.inner.Beginning.{HasBegunOr, IsLoaded}
-use Rattle.sheet_run.specs.Opening.{calls_from, desk_from, log_from, opening, HasOpened, IsAskedFor, StartSheet}
-use Rattle.sheet_run.specs.inner.Begun.{HasBegun}
-use Rattle.sheet_run.specs.Options.{bounds_of, limit_of, shown_kind, words_read}
+use Rattle.sheet_run.specs.inner.Opened.{without_room, without_session, without_sheet, IsOpened, IsUnopened, IsUnread}
+use Rattle.sheet_run.specs.Opening.{opening, HasOpened, StartSheet}
+use Rattle.sheet_run.specs.Options.{bounds_of, limit_of, words_read}
 use Rattle.sheet_run.specs.inner.Passing.{HasClosedOne, Passed}
-use Rattle.sheet_run.specs.Run.{after, happened, outside, screens, Outside, Step}
-use Rattle.sheet_run.specs.Status.{RunsWith, Surroundings, asked, finished, is_any, no_memory, no_note, no_sheet}
-use Rattle.sheet_run.specs.Status.{not_read, refused, surroundings, IsRun}
-use Rattle.sheet_run.specs.inner.OptionAnswers.{refused_text, IsFromFile}
+use Rattle.sheet_run.specs.Run.{after, happened, screens, Outside, Step}
+use Rattle.sheet_run.specs.Status.{RunsWith, Surroundings, asked, finished, is_any, no_memory, no_note, no_room}
+use Rattle.sheet_run.specs.Status.{no_session, no_sheet, not_read, refused, IsRun}
+use Rattle.sheet_run.specs.inner.OptionAnswers.{refused_text}
 use Rattle.sheet_run.specs.declared.options.Bounds.{Bounds}
 use Rattle.sheet_run.specs.declared.options.Refused.{Refused as RefusedPart}
 use Rattle.sheet_run.specs.declared.drive.Ending.{Ending}
 use Rattle.sheet_run.specs.declared.drive.Ending.TheVariants.{KeysEnded, Undone, Quit, Refused, BadWord, KeysFailed}
 use Rattle.sheet_run.specs.declared.drive.Ending.TheVariants.{Stopped, NoMemory}
-use Rattle.sheet_run.specs.declared.opening.NotBegun.{NotBegun}
-use Rattle.sheet_run.specs.declared.opening.NotBegun.TheVariants.{NotRead, Memory as NoSheet}
 use Rattle.sheet_run.specs.declared.opening.NotRead.{NotRead as NotReadWhy}
 use Rattle.sheet_run.specs.declared.options.Options.{Options}
-use Rattle.sheet_run.specs.declared.options.Start.{Start}
 use Rattle.sheet_run.specs.declared.options.Start.TheVariants as given
 use Rattle.sheet_run.proofs.Shown.{Lifted, all_closed, each_left}
 
@@ -50,98 +38,20 @@ pub nine : (o : Options) (before now : Surroundings) (status : ℕ) → status �
     → RunsWith o before now status
 nine o before now status is runs = subst (λ (n : ℕ). RunsWith o before now n) (sym is) runs
 
--- where the failed displays are the same, so is the outside
-pub same_failed : (bytes : Option (List ℕ)) (keys : ℕ) (readings : Option (List Moment))
-    (shelf : ShelfView) (displays failed failed' : List View) → failed' ≡ failed
-    → outside bytes keys readings shelf displays failed' ≡ outside bytes keys readings shelf displays failed
-same_failed bytes keys readings shelf displays failed failed' same =
-    ap (λ (fs : List View). outside bytes keys readings shelf displays fs) same
-
--- with the displays of other kinds dropped the outside is the one that the options ask for
-pub asked_is : (o : Options) (kind : DisplayKind) (bytes : Option (List ℕ)) (keys : ℕ)
-    (readings : Option (List Moment)) (shelf : ShelfView) (displays displays' failed failed' : List View)
-    → kind ≡ shown_kind o → displays' ≡ filter (λ v. same_kind v.kind kind) displays → failed' ≡ failed
-    → outside bytes keys readings shelf displays' failed' ≡ asked o (outside bytes keys readings shelf displays failed)
-asked_is o kind bytes keys readings shelf displays displays' failed failed' is kept same =
-    ap (λ (ds : List View). outside bytes keys readings shelf ds failed')
-    (kept ∙ ap (λ (k : DisplayKind). filter (λ v. same_kind v.kind k) displays) is)
-    ∙ ap (λ (fs : List View). outside bytes keys readings shelf
-    (filter (λ v. same_kind v.kind (shown_kind o)) displays) fs) same
-
--- the start file was read and then the clock, with the displays of other kinds dropped
-pub opened_is : (o : Options) (kind : DisplayKind) (start : StartSheet) (first : Moment)
-    (bytes : Option (List ℕ)) (keys : ℕ) (readings readings' : Option (List Moment))
-    (shelf shelf' : ShelfView) (displays displays' failed failed' : List View) → kind ≡ shown_kind o
-    → displays' ≡ filter (λ v. same_kind v.kind kind) displays → failed' ≡ failed → IsAskedFor o.start start
-    → HaveAnswered (calls_from start) shelf shelf' → TakesReading readings readings' first
-    → HasOpened o.start start first (asked o (outside bytes keys readings shelf displays failed))
-    (outside bytes keys readings' shelf' displays' failed')
-opened_is o kind start first bytes keys readings readings' shelf shelf' displays displays' failed failed' is kept same
-    named answered took = record {
-      named = named;
-      shelf = shelf';
-      answered = answered;
-      readings = readings';
-      took = took;
-      now_is = asked_is o kind bytes keys readings' shelf' displays displays' failed failed' is kept same;
-    }
-
--- only a file isn't read
-pub only_a_file : (words : Start) (came : NotBegun) (why : NotReadWhy) (a b : ShelfView) → came ≡ NotRead why
-    → HasBegunOr words (Err came) a b → IsFromFile words
-only_a_file words came why a b is h =
-    let begun : HasBegunOr words (Err (NotRead why)) a b =
-    subst (λ (n : NotBegun). HasBegunOr words (Err n) a b) is h in
-    subst IsFromFile (sym begun.1) tt
+-- memory ran out before a session was there
+pub unopened_run : (o : Options) (before now : Surroundings) → IsUnopened o before.outside now.outside
+    → Tried memory_note before.notes now.notes before.note_faults now.note_faults → RunsWith o before now 9
+unopened_run o before now (without_room same) tried = no_room same tried
+unopened_run o before now (without_sheet shelf broke is) tried = no_sheet shelf broke is tried
+unopened_run o before now (without_session start first opened) tried = no_session start first opened tried
 
 -- the start file isn't read
-pub unread_run : (o : Options) (kind : DisplayKind) (came : NotBegun) (why : NotReadWhy)
-    (bytes : Option (List ℕ)) (keys : ℕ) (readings : Option (List Moment)) (shelf shelf' : ShelfView)
-    (displays displays' failed failed' : List View) (notes notes' : Option (List ℕ)) (faults faults' status : ℕ)
-    → came ≡ NotRead why → kind ≡ shown_kind o → displays' ≡ filter (λ v. same_kind v.kind kind) displays
-    → failed' ≡ failed → HasBegunOr o.start (Err came) shelf shelf' → ((name : List ℕ) → o.start ≡ given.File name
-    → Tells (file_note name why) (file_status why) notes notes' faults faults' status)
-    → RunsWith o (surroundings (outside bytes keys readings shelf displays failed) notes faults)
-    (surroundings (outside bytes keys readings shelf' displays' failed') notes' faults') status
-unread_run o kind came why bytes keys readings shelf shelf' displays displays' failed failed' notes notes' faults
-    faults' status came_is is kept same begun told =
-    let h : HasBegunOr o.start (Err (NotRead why)) shelf shelf' =
-    subst (λ (n : NotBegun). HasBegunOr o.start (Err n) shelf shelf') came_is begun in
-    not_read h.0 why shelf' h.1 h.2
-    (asked_is o kind bytes keys readings shelf' displays displays' failed failed' is kept same) (told h.0 h.1)
-
--- memory ran out before the sheet was there
-pub broken_run : (o : Options) (kind : DisplayKind) (came : NotBegun) (bytes : Option (List ℕ)) (keys : ℕ)
-    (readings : Option (List Moment)) (shelf shelf' : ShelfView) (displays displays' failed failed' : List View)
-    (notes notes' : Option (List ℕ)) (faults faults' : ℕ) → came ≡ NoSheet → kind ≡ shown_kind o
-    → displays' ≡ filter (λ v. same_kind v.kind kind) displays → failed' ≡ failed
-    → HasBegunOr o.start (Err came) shelf shelf' → Tried memory_note notes notes' faults faults'
-    → RunsWith o (surroundings (outside bytes keys readings shelf displays failed) notes faults)
-    (surroundings (outside bytes keys readings shelf' displays' failed') notes' faults') 9
-broken_run o kind came bytes keys readings shelf shelf' displays displays' failed failed' notes notes' faults faults'
-    came_is is kept same begun tried =
-    let h : HasBegunOr o.start (Err NoSheet) shelf shelf' =
-    subst (λ (n : NotBegun). HasBegunOr o.start (Err n) shelf shelf') came_is begun in
-    no_sheet shelf' h (asked_is o kind bytes keys readings shelf' displays displays' failed failed' is kept same) tried
-
--- a session has become what a run begins with
-pub record IsOpened (start : StartSheet) (first : Moment) (s : SessionView) : Type 0 where
-  pub state : s.state ≡ (opening start first).state
-  pub work : HasWorked (opening start first).log no_work s.work
-
--- a session that was loaded over a begun desk is what the run begins with
-pub loaded_so : (words : Start) (desk : declared.Desk) (before now : ShelfView) (b : HasBegun words desk before now)
-    (t : SessionView) (first : Moment) → IsLoaded desk first t → IsOpened b.start first t
-loaded_so words desk before now b t first is =
-    let from : State = begun_with (desk_from b.start) in
-    let made : Follows (loaded first from) (fresh_running (of_desk desk) (work_of desk.sheet 0)) t =
-    subst (λ (d : Desk). Follows (loaded first (begun_with d)) (fresh_running (of_desk desk) (work_of desk.sheet 0)) t)
-    b.desk_is is.follows in
-    record {
-      state = made.state;
-      work = worked_both (log_from b.start) (loaded first from).log no_work
-          (work_of desk.sheet 0) t.work b.worked made.work;
-    }
+pub unread_run : (o : Options) (before now : Surroundings) (why : NotReadWhy) (status : ℕ)
+    → IsUnread o why before.outside now.outside → ((name : List ℕ) → o.start ≡ given.File name
+    → Tells (file_note name why) (file_status why) before.notes now.notes before.note_faults now.note_faults status)
+    → RunsWith o before now status
+unread_run o before now why status unread told =
+    not_read unread.name why unread.shelf unread.named unread.answered unread.now_is (told unread.name unread.named)
 
 -- what became of the displays, whatever the ending
 pub record Handled (s : State) (steps : List Step) (left out : List Watched) (before now : Outside) : Type 0 where
@@ -306,7 +216,7 @@ refused_run words part text before now status read is same (inr tried) =
     (no_note text (read ∙ ap (λ (t : List ℕ). Err t) (sym is)) same tried.1)
 
 -- lists compare by their lengths as what is seen of them does
-pub by_lengths : {X Y : Type 0} (f : X → View) (h : Y → View) (xs : List X) (ys : List Y) (a b : ℕ) → a ≡ length xs
-    → b ≡ length ys → nat_lt a b ≡ nat_lt (length (map f xs)) (length (map h ys))
-by_lengths f h xs ys a b p q = ap (λ (n : ℕ). nat_lt n b) (p ∙ sym (length-map xs f))
-    ∙ ap (nat_lt (length (map f xs))) (q ∙ sym (length-map ys h))
+pub by_lengths : {X Y : Type 0} (f : X → View) (h : Y → View) (xs : List X) (ys : List Y) (a b : ℕ) (first : List View)
+    → map f xs ≡ first → a ≡ length xs → b ≡ length ys → nat_lt a b ≡ nat_lt (length first) (length (map h ys))
+by_lengths f h xs ys a b first is p q = ap (λ (n : ℕ). nat_lt n b) (p ∙ sym (length-map xs f) ∙ ap length is)
+    ∙ ap (nat_lt (length first)) (q ∙ sym (length-map ys h))

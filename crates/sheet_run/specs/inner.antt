@@ -4,6 +4,7 @@ pub mod Begun
 pub mod Driving
 pub mod KeyFeed
 pub mod Lent
+pub mod Opened
 pub mod OptionAnswers
 pub mod Passing
 pub mod Sending

@@ -1,10 +1,14 @@
 // The start of a run: a fresh sheet, that of the start file, or a generated one.
-ghost use Rattle.std.specs.Prelude.{◌≡◌, IfOk};
+ghost use Rattle.std.specs.Prelude.{◌≡◌, ℕ, IfOk, List, OnOk, Option};
 ghost use Rattle.sheet_undo.specs.Histories.{no_history};
 ghost use Rattle.sheet_run.specs.Around.{shelf_of};
 ghost use Rattle.sheet_run.specs.inner.Beginning.{or_memory, HasBegunOr, HasLoaded, HasReadFile, HasReadSheet, IsDeskOf, IsGeneratedDesk};
+ghost use Rattle.sheet_run.specs.inner.Lent.{told_beside, HasRoom, IsSame};
+ghost use Rattle.sheet_run.specs.inner.Opened.{HasOpenedOr};
 
-use crate::options::{RowCount, Start};
+use crate::displays::prepare;
+use crate::options::{Options, RowCount, Start};
+use crate::outside::Outside;
 use command_desk::Desk;
 use outside_world::{ByteBuffer, Clock, FileName, Memory, Shelf, ShelfFault};
 use session_core::Session;
@@ -85,9 +89,9 @@ fn or_memory(desk: Result<Desk, Memory>) -> Result<Desk, NotBegun>
     }
 }
 
-/// The desk that a run begins with: with the sheet of the start file, where there is one, with a generated sheet, or
-/// with a fresh one. The shelf is asked once for the start file, and for nothing else.
-pub fn begin<S: Shelf>(alloc: Global, start: &Start, shelf: &mut S) -> Result<Desk, NotBegun>
+// The desk that a run begins with: with the sheet of the start file, where there is one, with a generated sheet, or
+// with a fresh one. The shelf is asked once for the start file, and for nothing else.
+fn begin<S: Shelf>(alloc: Global, start: &Start, shelf: &mut S) -> Result<Desk, NotBegun>
     ensures { let at = shelf_of S.Shelf in HasBegunOr start.now result (at shelf.old) (at shelf.new) }
 {
     match start {
@@ -100,8 +104,8 @@ pub fn begin<S: Shelf>(alloc: Global, start: &Start, shelf: &mut S) -> Result<De
     }
 }
 
-/// The session that begins with a desk whose sheet keeps no states, recalculated at a reading of the clock.
-pub fn load<C: Clock>(desk: Desk, clock: &mut C) -> Result<Session, Memory>
+// The session that begins with a desk whose sheet keeps no states, recalculated at a reading of the clock.
+fn load<C: Clock>(desk: Desk, clock: &mut C) -> Result<Session, Memory>
     requires { desk.sheet.history ≡ no_history }
     ensures { HasLoaded desk (C.readings clock.old) (C.readings clock.new) result }
 {
@@ -110,5 +114,28 @@ pub fn load<C: Clock>(desk: Desk, clock: &mut C) -> Result<Session, Memory>
     match session.load(&first) {
         Ok(()) => Ok(session),
         Err(Memory) => Err(Memory),
+    }
+}
+
+/// The session that a run with these options begins with. Room is made among the failed displays for those of the kind
+/// that is asked for, the others are dropped, and then the shelf and the clock are asked.
+pub fn open_session<S: Shelf, C: Clock>(
+    alloc: Global,
+    options: &Options,
+    outside: &mut Outside<'_, S, C>,
+) -> Result<Session, NotBegun>
+    ensures opened { (bytes : Option (List ℕ)) (faults : ℕ) → let at = told_beside S.Shelf C.Clock seen bytes faults in
+        HasOpenedOr options.now result (at outside.old) (at outside.new) }
+    ensures room { OnOk result (HasRoom outside.new) }
+    ensures same { IsSame outside.old outside.new }
+{
+    let prepared = prepare(options.kind(), outside.displays, outside.failed);
+    if prepared.is_err() {
+        return Err(NotBegun::Memory);
+    }
+    let desk = begin(alloc, &options.start, outside.shelf)?;
+    match load(desk, outside.clock) {
+        Ok(session) => Ok(session),
+        Err(Memory) => Err(NotBegun::Memory),
     }
 }

@@ -1,22 +1,25 @@
 // The top call.
-ghost use Rattle.std.specs.Prelude.{◌≡◌, ℕ, List};
+ghost use Rattle.std.specs.Prelude.{◌≡◌, ℕ, false, List};
 ghost use Rattle.sheet_run.specs.Around.{around};
 ghost use Rattle.sheet_run.specs.Completeness.{Answers, HasEndedWell, RanAsTold, MustEndWell};
-ghost use Rattle.sheet_run.specs.inner.Lent.{told_with, IsSame};
+ghost use Rattle.sheet_run.specs.inner.Lent.{told, told_with, HasRoom, IsSame};
 ghost use Rattle.sheet_run.specs.Notes.{file_note, file_status, Tells};
+ghost use Rattle.sheet_run.specs.inner.Opened.{IsOpen};
 ghost use Rattle.sheet_run.specs.inner.OptionAnswers.{refused_text, IsFromFile, IsPart};
+ghost use Rattle.sheet_run.specs.Run.{Outside as OutsideView};
 ghost use Rattle.sheet_run.specs.declared.options.Start.TheVariants as given;
-ghost use Rattle.sheet_run.specs.Status.{IsRun, RunsWith, Surroundings};
+ghost use Rattle.sheet_run.specs.Status.{surroundings, IsRun, RunsWith, Surroundings};
 
 use crate::Words;
-use crate::displays::{Work, keep_kind, sending_to, work_on_all};
+use crate::displays::{Work, sending_to, work_on_all};
 use crate::drive::{Ending, drive};
 use crate::notes::{tell, tell_memory, tell_refused, tell_unread};
-use crate::opening::{NotBegun, NotRead, begin, load};
+use crate::opening::{NotBegun, NotRead, open_session};
 use crate::options::{Options, Refused, Start, Wanted, read_words, word_at};
 use crate::outside::Outside;
 use outside_world::{Clock, Keys, Notes, Shelf};
 use screen_show::Display;
+use session_core::Session;
 use std::alloc::Global;
 
 // The refused part of the words.
@@ -125,28 +128,38 @@ fn run_with<K: Keys, S: Shelf, C: Clock, N: Notes>(
         RunsWith options (at keys.old outside.old notes.old) (at keys.new outside.new notes.new) result }
     ensures same { IsSame outside.old outside.new }
 {
-    let failed_before = outside.failed.len();
-    if outside.failed.reserve(outside.displays.len()).is_err() {
-        return tell_memory(notes);
+    match open_session(alloc, &options, outside) {
+        Ok(mut session) => run_session(&options, keys, outside, &mut session, notes),
+        Err(NotBegun::NotRead(why)) => tell_start(&options.start, why, notes),
+        Err(NotBegun::Memory) => tell_memory(notes),
     }
-    keep_kind(options.kind(), outside.displays);
-    let desk = match begin(alloc, &options.start, outside.shelf) {
-        Ok(desk) => desk,
-        Err(NotBegun::NotRead(why)) => return tell_start(&options.start, why, notes),
-        Err(NotBegun::Memory) => return tell_memory(notes),
-    };
-    let Ok(mut session) = load(desk, outside.clock) else {
-        return tell_memory(notes);
-    };
-    let bounds = options.bounds();
+}
+
+// Makes the steps of a run that was opened, closes the displays that are left, and answers the status.
+fn run_session<K: Keys, S: Shelf, C: Clock, N: Notes>(
+    options: &Options,
+    keys: &mut K,
+    outside: &mut Outside<'_, S, C>,
+    session: &mut Session,
+    notes: &mut N,
+) -> u8
+    requires fresh { session.old.spent ≡ false }
+    requires room { HasRoom outside.old }
+    ensures ran { (before : OutsideView) → let at = told K.Keys S.Shelf C.Clock seen in
+        IsOpen options.now session.old before (at keys.old outside.old) →
+        RunsWith options.now (surroundings before (N.written notes.old) (N.faults notes.old))
+        (surroundings (at keys.new outside.new) (N.written notes.new) (N.faults notes.new)) result }
+    ensures same { IsSame outside.old outside.new }
+{
+    let failed_before = outside.failed.len();
     let sending = sending_to(options.kind(), outside.displays);
-    let ending = drive(bounds, sending, keys, outside, &mut session);
+    let ending = drive(options.bounds(), sending, keys, outside, session);
     if let Ending::NoMemory = ending {
         return tell_memory(notes);
     }
     work_on_all(&Work::Close, outside.displays, outside.failed);
     let moved = outside.failed.len() > failed_before;
-    tell(notes, &options, &session, moved, ending)
+    tell(notes, options, session, moved, ending)
 }
 
 // Tells that the start file isn't read.

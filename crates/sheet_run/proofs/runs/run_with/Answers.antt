@@ -1,85 +1,41 @@
-use Rattle.std.proofs.Common.{◌≡◌, false, map, refl, ap, sym, ◌∙◌, arith, Result, Ok, Err, OnOk}
-use Rattle.std.specs.Result.{is_err}
-use Rattle.std.proofs.lemmas.Bool.{true≢false}
-use Rattle.sheet_run.specs.Status.{no_room, no_session}
-use Rattle.sheet_run.proofs.Endings.{broken_run, by_lengths, finish, leaves_unless, loaded_so, nine, only_a_file}
-use Rattle.sheet_run.proofs.Endings.{opened_is, ran_out, same_failed, unread_run}
+use Rattle.std.proofs.Common.{None}
+use Rattle.sheet_run.proofs.Endings.{nine, unopened_run, unread_run}
+use Rattle.sheet_run.proofs.Opened.{same_both, unopened, unread, unread_file}
 use Rattle.sheet_run.proofs.runs.run_with.Goals as goal
 
-pub returns-then-is_err-clause-ran : goal.returns-then-is_err-clause-ran
-returns-then-is_err-clause-ran g c =
-    nine _ _ _ _ c.tell_memory.ensures.status
-    (no_room (same_failed _ _ _ _ _ _ _ (ap (map _) c.reserve.ensures.items)) c.tell_memory.ensures.tried)
+pub run_session-requires-clause-fresh : goal.run_session-requires-clause-fresh
+run_session-requires-clause-fresh g c = (c.in-Ok.ensures.opened None 0).fresh
+
+pub run_session-requires-clause-room : goal.run_session-requires-clause-room
+run_session-requires-clause-room g c = c.in-Ok.ensures.room
+
+pub returns-in-Ok-clause-ran : goal.returns-in-Ok-clause-ran
+returns-in-Ok-clause-ran g c = c.run_session.ensures.ran _ (c.in-Ok.ensures.opened _ _)
+
+pub returns-in-Ok-clause-same : goal.returns-in-Ok-clause-same
+returns-in-Ok-clause-same g c = same_both _ _ _ c.in-Ok.ensures.same c.run_session.ensures.same
+
+pub returns-in-Err-NotRead-clause-same : goal.returns-in-Err-NotRead-clause-same
+returns-in-Err-NotRead-clause-same g c = c.in-Err-NotRead.ensures.same
+
+pub returns-in-Err-Memory-clause-same : goal.returns-in-Err-Memory-clause-same
+returns-in-Err-Memory-clause-same g c = c.in-Err-Memory.ensures.same
 
 pub tell_start-requires : goal.tell_start-requires
-tell_start-requires g c = only_a_file c.args.options.start c.in-Err-NotRead.field-0 c.in-Err-NotRead.why _ _
-    c.in-Err-NotRead.field-0-is c.in-Err-NotRead.ensures
+tell_start-requires g c =
+    unread_file c.args.options c.in-Err-NotRead.why _ _
+    (unread c.args.options c.in-Err-NotRead.field-0 c.in-Err-NotRead.why _ _ c.in-Err-NotRead.field-0-is
+    (c.in-Err-NotRead.ensures.opened None 0))
 
 pub returns-in-Err-NotRead-clause-ran : goal.returns-in-Err-NotRead-clause-ran
 returns-in-Err-NotRead-clause-ran g c =
-    unread_run c.args.options c.kind.result c.in-Err-NotRead.field-0 c.in-Err-NotRead.why _ _ _ _ _ _ _ _ _
-    (g.N.Notes.written c.args.notes.now) (g.N.Notes.written c.tell_start.new.notes)
-    (g.N.Notes.faults c.args.notes.now) (g.N.Notes.faults c.tell_start.new.notes) c.tell_start.result
-    c.in-Err-NotRead.field-0-is
-    c.kind.ensures c.keep_kind.ensures.kept (ap (map _) c.reserve.ensures.items) c.in-Err-NotRead.ensures
-    (λ name is. rw (← c.in-Err-NotRead.why-is) (c.tell_start.ensures name is))
+    let why = c.in-Err-NotRead.why in
+    unread_run c.args.options _ _ why c.tell_start.result
+    (unread c.args.options c.in-Err-NotRead.field-0 why _ _ c.in-Err-NotRead.field-0-is
+    (c.in-Err-NotRead.ensures.opened _ _)) (λ name is. rw (← c.in-Err-NotRead.why-is) (c.tell_start.ensures name is))
 
 pub returns-in-Err-Memory-clause-ran : goal.returns-in-Err-Memory-clause-ran
 returns-in-Err-Memory-clause-ran g c =
-    nine _ _ _ _ c.tell_memory-in-Err-Memory.ensures.status
-    (broken_run c.args.options c.kind.result c.in-Err-Memory.field-0 _ _ _ _ _ _ _ _ _ _ _ _ _
-    c.in-Err-Memory.field-0-is
-    c.kind.ensures c.keep_kind.ensures.kept (ap (map _) c.reserve.ensures.items) c.in-Err-Memory.ensures
-    c.tell_memory-in-Err-Memory.ensures.tried)
-
--- the desk's sheet keeps no states
-pub load-requires : goal.load-requires
-load-requires g c = c.in-Ok.ensures.none_kept
-
-pub returns-in_default-clause-ran : goal.returns-in_default-clause-ran
-returns-in_default-clause-ran g c =
-    let begun = c.in-Ok.ensures in
-    let read = c.in_default.ensures in
-    nine _ _ _ _ c.tell_memory-in_default.ensures.status
-    (no_session begun.start read.0
-    (opened_is c.args.options c.kind.result begun.start read.0 _ _ _ _ _ _ _ _ _ _ c.kind.ensures
-    c.keep_kind.ensures.kept (ap (map _) c.reserve.ensures.items) begun.named begun.answered read.1)
-    c.tell_memory-in_default.ensures.tried)
-
--- the displays that are left are no more than there were
-pub drive-ending-requires-clause-room : goal.drive-ending-requires-clause-room
-drive-ending-requires-clause-room g c =
-    let no_error : is_err c.reserve.result ≡ false = sym c.is_err.ensures.value ∙ c.if-is_err.false in
-    let room = when_ok c.reserve.result _ no_error c.reserve.ensures.ok in
-    omega (arith, room, c.len.ensures, c.keep_kind.ensures.fewer)
-  where
-    when_ok : {T E : Type 0} (r : Result T E) (P : Type 0) → is_err r ≡ false → OnOk r P → P
-    when_ok (Ok t) P e h = h
-    when_ok (Err f) P e h = absurd (true≢false e)
-
-pub returns-in-NoMemory-clause-ran : goal.returns-in-NoMemory-clause-ran
-returns-in-NoMemory-clause-ran g c =
-    let begun = c.in-Ok.ensures in
-    let read = c.in-Ok-load.ensures in
-    nine _ _ _ _ c.tell_memory-in-NoMemory.ensures.status
-    (ran_out c.args.options c.bounds-bounds.result begun.start read.0 c.in-Ok-load.session c.drive-ending.new.session _
-    _ _ c.bounds-bounds.ensures
-    (opened_is c.args.options c.kind.result begun.start read.0 _ _ _ _ _ _ _ _ _ _ c.kind.ensures
-    c.keep_kind.ensures.kept (ap (map _) c.reserve.ensures.items) begun.named begun.answered read.1)
-    (loaded_so _ c.in-Ok.desk _ _ begun c.in-Ok-load.session read.0 read.2) c.in-NoMemory.ensures.driven
-    c.tell_memory-in-NoMemory.ensures.tried)
-
-pub returns-clause-ran : goal.returns-clause-ran
-returns-clause-ran g c =
-    let begun = c.in-Ok.ensures in
-    let read = c.in-Ok-load.ensures in
-    finish c.args.options c.bounds-bounds.result begun.start read.0 c.in-Ok-load.session c.drive-ending.new.session
-    c.drive-ending.result _ _ _ _ _ _ _ _ c.bounds-bounds.ensures
-    (opened_is c.args.options c.kind.result begun.start read.0 _ _ _ _ _ _ _ _ _ _ c.kind.ensures
-    c.keep_kind.ensures.kept (ap (map _) c.reserve.ensures.items) begun.named begun.answered read.1)
-    (loaded_so _ c.in-Ok.desk _ _ begun c.in-Ok-load.session read.0 read.2)
-    (leaves_unless c.drive-ending.result c.in_default-ending.not-NoMemory) c.drive-ending.ensures.driven
-    c.work_on_all.ensures.passed refl
-    (by_lengths _ _ c.args.outside.now.failed.now.items c.work_on_all.new.failed.items c.len-failed_before.result
-    c.len-2.result (c.len-failed_before.ensures ∙ c.args.outside.now.failed.now.ok.0)
-    (c.len-2.ensures ∙ c.work_on_all.new.failed.ok.0)) c.tell.ensures
+    nine _ _ _ _ c.tell_memory.ensures.status
+    (unopened_run c.args.options _ _ (unopened c.args.options c.in-Err-Memory.field-0 _ _ c.in-Err-Memory.field-0-is
+    (c.in-Err-Memory.ensures.opened _ _)) c.tell_memory.ensures.tried)
