@@ -36,15 +36,18 @@ fn lacks_area(on: bool, held: &Option<Screen>) -> bool
     !on && held.is_none()
 }
 
-// An area that is on isn't held.
-#[tactic(auto, using(crate::proofs::Still::hold_gone, crate::proofs::Still::let_stay))]
+// An area that is on isn't held. A screen is large, and is let go only where there is one.
+#[tactic(auto, using(crate::proofs::Still::hold_gone, crate::proofs::Still::hold_none, crate::proofs::Still::let_stay))]
 fn let_go(on: bool, held: &mut Option<Screen>)
     requires { spec.lacks_area on held.old ≡ false }
     ensures held { (before : List (List ℕ)) → held.new ≡ spec.frozen_by on before held.old }
     ensures printed { ArePrinted held.old → ArePrinted held.new }
 {
+    let is_held = held.is_some();
     if on {
-        *held = None;
+        if is_held {
+            *held = None;
+        }
     }
 }
 
