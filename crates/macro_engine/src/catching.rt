@@ -37,7 +37,8 @@ fn put_message(
     let mut writes = Writes::new(alloc);
     writes.push(written(cell, Content::Label(LabelPrefix::Left, text)))?;
     let change = Change::Write(writes);
-    let refused = carry_out(&change, sheet, scene, tally)?;
+    let mut rows = None;
+    let refused = carry_out(&change, sheet, scene, tally, &mut rows)?;
     drop(change);
     let _ = refused;
     Ok(())

@@ -1,12 +1,14 @@
 // What a word does to the sheet.
-ghost use Rattle.std.specs.Prelude.{◌≡◌, IfOk, OnOk};
+ghost use Rattle.std.specs.Prelude.{◌≡◌, IfOk, None, OnOk};
 ghost use Rattle.formula_eval.specs.Mean.{mean};
+ghost use Rattle.macro_engine.specs.RowSpans.{ChangesRows};
 ghost use Rattle.macro_words.specs.declared.running.Change.TheVariants as change;
 ghost use Rattle.work_sheet.specs.Did.{Did};
 ghost use Rattle.work_sheet.specs.Doing.{settled};
 ghost use Rattle.work_sheet.specs.Seen.{of_worksheet};
 ghost use Rattle.macro_engine.specs.inner.Carried.{HasCarried, HasSettled, WasRefused};
 
+use crate::row_span::{RowSpan, rows_behind};
 use crate::sweeping::sweep_span;
 use formula_eval::Tally;
 use formula_parts::Scene;
@@ -58,17 +60,20 @@ fn settled(
     }
 }
 
-// Contents are written.
+// Contents are written. The rows become those that are changed, where they are told.
 fn write(
     writes: &Writes,
     sheet: &mut Worksheet,
     scene: &Scene,
     tally: &mut Tally,
+    rows: &mut Option<RowSpan>,
 ) -> Result<Option<Cell>, Memory>
-    ensures { IfOk result (λ cell. HasCarried (change.Write writes.now) scene.entry.now cell
+    ensures carried { IfOk result (λ cell. HasCarried (change.Write writes.now) scene.entry.now cell
         sheet.old sheet.new tally.old.count tally.new.count) }
+    ensures rows { IfOk result (λ cell. ChangesRows rows.new (of_worksheet sheet.old) (of_worksheet sheet.new)) }
 {
     let answer = sheet.write(writes);
+    *rows = rows_behind(writes, sheet);
     settled(answer, sheet, scene, tally)
 }
 
@@ -87,19 +92,23 @@ fn erase(
 }
 
 /// Changes the sheet as a word asks; in Automatic mode a recalculation follows a change of contents. Where cells that
-/// are to be written are protected, nothing is changed, and the first of them in row order is the answer.
+/// are to be written are protected, nothing is changed, and the first of them in row order is the answer. The rows,
+/// none before, become those that are changed, where they are told.
 pub fn carry_out(
     change: &Change,
     sheet: &mut Worksheet,
     scene: &Scene,
     tally: &mut Tally,
+    rows: &mut Option<RowSpan>,
 ) -> Result<Option<Cell>, Memory>
-    ensures { IfOk result (λ cell. HasCarried change.now scene.entry.now cell
+    requires { rows.old ≡ None }
+    ensures carried { IfOk result (λ cell. HasCarried change.now scene.entry.now cell
         sheet.old sheet.new tally.old.count tally.new.count) }
+    ensures rows { IfOk result (λ cell. ChangesRows rows.new (of_worksheet sheet.old) (of_worksheet sheet.new)) }
 {
     match change {
         Change::Nothing => Ok(None),
-        Change::Write(writes) => write(writes, sheet, scene, tally),
+        Change::Write(writes) => write(writes, sheet, scene, tally, rows),
         Change::Erase(span) => erase(*span, sheet, scene, tally),
         Change::Recalculate(sweep) => {
             sweep_span(sweep, sheet, scene, tally)?;

@@ -4,6 +4,7 @@ ghost use Rattle.lics_text.specs.Bytes.{IsText};
 ghost use Rattle.macro_engine.specs.Catching as catching;
 ghost use Rattle.macro_engine.specs.Catching.{HasCaught};
 ghost use Rattle.macro_engine.specs.Keys as keys;
+ghost use Rattle.macro_engine.specs.RowSpans.{ChangesRows};
 ghost use Rattle.macro_engine.specs.Steps as spec;
 ghost use Rattle.macro_engine.specs.Steps.{HasStepped};
 ghost use Rattle.macro_engine.specs.inner.Outcomes.{end_in, left_by};
@@ -11,7 +12,8 @@ ghost use Rattle.macro_words.specs.Moves.{begun_at};
 ghost use Rattle.work_sheet.specs.Seen.{of_worksheet};
 
 use crate::catching::caught;
-use crate::steps::{Outcome, StepEnd, deed_stepped, key_stepped, stepped};
+use crate::row_span::RowSpan;
+use crate::steps::{Outcome, StepEnd, deed_stepped, key_stepped, rows_in, stepped};
 use formula_eval::Tally;
 use formula_parts::Scene;
 use grid_address::Cell;
@@ -162,7 +164,7 @@ impl Engine {
         ensures running { self.new ≡ left_by outcome self.old }
     {
         match outcome {
-            Ok(Outcome { end, goes_on }) => {
+            Ok(Outcome { end, goes_on, .. }) => {
                 if !goes_on {
                     self.stop();
                 }
@@ -180,23 +182,28 @@ impl Engine {
     /// macro and leaves the sheet as it was; its cell is that of the word at fault. Where a cell that is to be written
     /// is protected, the word writes nothing, and the macro stands behind it in its calls and loops; the cell is the
     /// first such one in row order. Where no macro runs, nothing is done. After `Memory` no macro runs, and the sheet
-    /// is open but for what it keeps. (Release 2 manual for the words; that the text is read anew at each step, the
-    /// faults and their order are this project's choice.)
+    /// is open but for what it keeps. The rows become those of which alone cells may have changed, where a step tells
+    /// them. (Release 2 manual for the words; that the text is read anew at each step, the faults and their order are
+    /// this project's choice.)
     #[tactic(auto, unfolding(crate::specs::Steps::macro_step))]
     pub fn step(
         &mut self,
         sheet: &mut Worksheet,
         scene: &Scene,
         tally: &mut Tally,
+        rows: &mut Option<RowSpan>,
     ) -> Result<StepEnd, Memory>
         ensures step { let step = spec.macro_step scene.entry.now self.old (of_worksheet sheet.old) in IfOk result
             (λ end. HasStepped step end self.new sheet.old sheet.new tally.old.count tally.new.count) }
+        ensures rows { ChangesRows rows.new (of_worksheet sheet.old) (of_worksheet sheet.new) }
         ensures memory { OnErr result (self.new ≡ None) }
     {
+        *rows = None;
         let Some(running) = &mut self.running else {
             return Ok(StepEnd::Works);
         };
         let outcome = stepped(running, &mut self.kept, sheet, scene, tally);
+        *rows = rows_in(&outcome);
         self.stand_behind(outcome)
     }
 

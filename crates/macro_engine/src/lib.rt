@@ -4,8 +4,10 @@
 mod catching;
 mod changes;
 mod engine;
+mod row_span;
 mod steps;
 mod sweeping;
 
 pub use engine::{Engine, macro_named};
+pub use row_span::RowSpan;
 pub use steps::StepEnd;

@@ -1,15 +1,17 @@
 // One step of a macro that runs.
-ghost use Rattle.std.specs.Prelude.{◌≡◌, false, true, IfOk, Some};
+ghost use Rattle.std.specs.Prelude.{◌≡◌, false, true, IfOk, None, Some};
 ghost use Rattle.macro_engine.specs.Keys as keys;
+ghost use Rattle.macro_engine.specs.RowSpans.{ChangesRows};
 ghost use Rattle.macro_engine.specs.Steps as spec;
 ghost use Rattle.macro_engine.specs.Steps.{HasStepped};
-ghost use Rattle.macro_engine.specs.inner.Outcomes.{left_running};
+ghost use Rattle.macro_engine.specs.inner.Outcomes.{left_running, rows_in};
 ghost use Rattle.macro_engine.specs.declared.steps.StepEnd.TheVariants as end;
 ghost use Rattle.macro_text.specs.declared.unit.Unit.TheVariants as units;
 ghost use Rattle.macro_words.specs.Moves as moving;
 ghost use Rattle.work_sheet.specs.Seen.{of_worksheet};
 
 use crate::changes::carry_out;
+use crate::row_span::RowSpan;
 use formula_eval::Tally;
 use formula_parts::Scene;
 use grid_address::Cell;
@@ -55,27 +57,43 @@ impl StepEnd {
     }
 }
 
-/// What a step came to, and whether the macro goes on.
+/// What a step came to, whether the macro goes on, and the rows that it may have changed, where it tells them.
 #[derive(Drop)]
 pub struct Outcome {
     pub end: StepEnd,
     pub goes_on: bool,
+    pub rows: Option<RowSpan>,
+}
+
+/// The rows that a step tells, which it may have changed.
+pub fn rows_in(outcome: &Result<Outcome, Memory>) -> Option<RowSpan>
+    ensures { result ≡ rows_in outcome.now }
+{
+    match outcome {
+        Ok(outcome) => outcome.rows,
+        Err(_) => None,
+    }
 }
 
 // A step came to this, and the macro goes on.
 fn going_on(end: StepEnd) -> Outcome
-    ensures { result ≡ record { end = end; goes_on = true } }
+    ensures { result ≡ record { end = end; goes_on = true; rows = None } }
 {
-    Outcome { end, goes_on: true }
+    Outcome {
+        end,
+        goes_on: true,
+        rows: None,
+    }
 }
 
 // A fault of the word in this cell stops the macro.
 fn faulty(fault: MacroFault, cell: Cell) -> Outcome
-    ensures { result ≡ record { end = end.Faulty fault cell; goes_on = false } }
+    ensures { result ≡ record { end = end.Faulty fault cell; goes_on = false; rows = None } }
 {
     Outcome {
         end: StepEnd::Faulty(fault, cell),
         goes_on: false,
+        rows: None,
     }
 }
 
@@ -113,6 +131,7 @@ fn done(running: &mut Running, change: &Change, after: Move) -> Result<Outcome, 
             Ok(Outcome {
                 end: worked(change),
                 goes_on,
+                rows: None,
             })
         }
     }
@@ -126,12 +145,14 @@ pub fn deed_stepped(
     scene: &Scene,
     tally: &mut Tally,
 ) -> Result<Outcome, Memory>
-    ensures { let step = spec.deed_step scene.entry.now running.old deed (of_worksheet sheet.old) in
+    ensures step { let step = spec.deed_step scene.entry.now running.old deed (of_worksheet sheet.old) in
         IfOk result (λ x. HasStepped step x.end (left_running x.goes_on (Some running.new))
         sheet.old sheet.new tally.old.count tally.new.count) }
+    ensures rows { IfOk result (λ x. ChangesRows x.rows (of_worksheet sheet.old) (of_worksheet sheet.new)) }
 {
     let Deed { change, after } = deed;
-    let refused = carry_out(&change, sheet, scene, tally)?;
+    let mut rows = None;
+    let refused = carry_out(&change, sheet, scene, tally, &mut rows)?;
     match refused {
         Some(cell) => {
             drop(change);
@@ -141,7 +162,8 @@ pub fn deed_stepped(
         None => {
             let stepped = done(running, &change, after);
             drop(change);
-            stepped
+            let Outcome { end, goes_on, .. } = stepped?;
+            Ok(Outcome { end, goes_on, rows })
         }
     }
 }
@@ -155,9 +177,10 @@ fn row_stepped(
     scene: &Scene,
     tally: &mut Tally,
 ) -> Result<Outcome, Memory>
-    ensures { let step = spec.row_step scene.entry.now running.old cell row (of_worksheet sheet.old) in
+    ensures step { let step = spec.row_step scene.entry.now running.old cell row (of_worksheet sheet.old) in
         IfOk result (λ x. HasStepped step x.end (left_running x.goes_on (Some running.new))
         sheet.old sheet.new tally.old.count tally.new.count) }
+    ensures rows { IfOk result (λ x. ChangesRows x.rows (of_worksheet sheet.old) (of_worksheet sheet.new)) }
 {
     match row {
         Ok(deed) => deed_stepped(running, deed, sheet, scene, tally),
@@ -195,9 +218,11 @@ fn command_stepped(
     scene: &Scene,
     tally: &mut Tally,
 ) -> Result<Outcome, Memory>
-    ensures { let step = spec.unit_step scene.entry.now running.old (units.Command at.now) (of_worksheet sheet.old) in
+    ensures step { let s = of_worksheet sheet.old in
+        let step = spec.unit_step scene.entry.now running.old (units.Command at.now) s in
         IfOk result (λ x. HasStepped step x.end (left_running x.goes_on (Some running.new))
         sheet.old sheet.new tally.old.count tally.new.count) }
+    ensures rows { IfOk result (λ x. ChangesRows x.rows (of_worksheet sheet.old) (of_worksheet sheet.new)) }
 {
     let from = source(sheet, scene);
     let row = row(&from, running, kept, at)?;
@@ -211,9 +236,10 @@ fn return_stepped(
     scene: &Scene,
     tally: &mut Tally,
 ) -> Result<Outcome, Memory>
-    ensures { let step = spec.unit_step scene.entry.now running.old units.Return (of_worksheet sheet.old) in
+    ensures step { let step = spec.unit_step scene.entry.now running.old units.Return (of_worksheet sheet.old) in
         IfOk result (λ x. HasStepped step x.end (left_running x.goes_on (Some running.new))
         sheet.old sheet.new tally.old.count tally.new.count) }
+    ensures rows { IfOk result (λ x. ChangesRows x.rows (of_worksheet sheet.old) (of_worksheet sheet.new)) }
 {
     let cell = cell_of(running);
     let from = source(sheet, scene);
@@ -230,9 +256,10 @@ fn unit_stepped(
     scene: &Scene,
     tally: &mut Tally,
 ) -> Result<Outcome, Memory>
-    ensures { let step = spec.unit_step scene.entry.now running.old unit.now (of_worksheet sheet.old) in
+    ensures step { let step = spec.unit_step scene.entry.now running.old unit.now (of_worksheet sheet.old) in
         IfOk result (λ x. HasStepped step x.end (left_running x.goes_on (Some running.new))
         sheet.old sheet.new tally.old.count tally.new.count) }
+    ensures rows { IfOk result (λ x. ChangesRows x.rows (of_worksheet sheet.old) (of_worksheet sheet.new)) }
 {
     match unit {
         Unit::Key(key) => Ok(going_on(StepEnd::Types(*key))),
@@ -252,9 +279,10 @@ pub fn stepped(
     scene: &Scene,
     tally: &mut Tally,
 ) -> Result<Outcome, Memory>
-    ensures { let step = spec.macro_step scene.entry.now (Some running.old) (of_worksheet sheet.old) in
+    ensures step { let step = spec.macro_step scene.entry.now (Some running.old) (of_worksheet sheet.old) in
         IfOk result (λ x. HasStepped step x.end (left_running x.goes_on (Some running.new))
         sheet.old sheet.new tally.old.count tally.new.count) }
+    ensures rows { IfOk result (λ x. ChangesRows x.rows (of_worksheet sheet.old) (of_worksheet sheet.new)) }
 {
     let (unit, position) = next_unit(sheet.alloc(), sheet, scene, kept, &running.position)?;
     running.position = position;

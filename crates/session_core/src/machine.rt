@@ -618,9 +618,10 @@ impl Machine {
         ensures touched { IfOk result (λ t. HasTouched t.touched self.old.state self.new.state) }
     {
         let scene = self.scene(now);
+        let mut rows = None;
         let end = self
             .engine
-            .step(&mut self.desk.sheet, &scene, &mut self.tally)?;
+            .step(&mut self.desk.sheet, &scene, &mut self.tally, &mut rows)?;
         let is_left = end.leaves_sheet();
         let taken = self.come_to(end, now, shelf)?;
         Ok(taken.behind(is_left))
