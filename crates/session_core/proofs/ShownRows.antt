@@ -1,12 +1,14 @@
 -- Rows of the sheet and the lines that show them.
 use Rattle.std.proofs.Common.{◌≡◌, ℕ, zero, suc, ◌+◌, ◌-◌, ◌≤◌, ◌<◌, Bool, true, false, List, [], ◌∷◌, Some, get_or, ap}
-use Rattle.std.proofs.Common.{sym, ◌∙◌, arith, inl, inr}
+use Rattle.std.proofs.Common.{sym, subst, ◌∙◌, arith, inl, inr}
 use Rattle.std.specs.Prelude.{◌&&◌, if◌then◌else◌, nat_eq, nat_le, nat_lt, slice_get}
 use Rattle.std.proofs.lemmas.Bool.{and_from, and_parts, cases_Bool, eq-eqb, false_from_ne_true, le-leb, leb-true}
 use Rattle.std.proofs.lemmas.Bool.{lt-ltb, ltb-true, true≢false}
 use Rattle.std.proofs.lemmas.Option.{get_or_from_slice_get}
 use Rattle.cell_maps.specs.Sets.{has}
 use Rattle.grid_address.specs.Place.{same_place, Place}
+use Rattle.macro_engine.specs.RowSpans.{is_in}
+use Rattle.macro_engine.specs.declared.row_span.RowSpan.{RowSpan}
 use Rattle.session_core.specs.inner.Touches.{is_row_in}
 
 -- a line that isn't in a set
@@ -59,3 +61,24 @@ module _ (lines : List Bool) (first : ℕ) where
       (c : Place) → is_row_in lines first c.row ≡ false → has same_place cells c ≡ false
   cells_out cells told c out = false_from_ne_true (has same_place cells c)
       (λ k. true≢false (sym (row_in c.row (λ n least most gone. told n least most gone c k)) ∙ out))
+
+-- a span of one row has no other
+only_row : (span : RowSpan) (k : ℕ) → span.first ≡ span.last → is_in span k ≡ true → span.first ≡ k
+only_row span k one h =
+    let parts = and_parts (nat_le span.first k) (nat_le k span.last) h in
+    let from : span.first ≤ k = leb-true span.first k parts.0 in
+    let to : k ≤ span.last = leb-true k span.last parts.1 in
+    omega (arith, one)
+
+-- the line of the only row of a span
+pub one_in : (lines : List Bool) (first : ℕ) (span : RowSpan) → span.first ≡ span.last
+    → ((n : ℕ) → 4 ≤ n → n < 24 → slice_get lines n ≡ Some false → nat_eq span.first (first + (n - 4)) ≡ false)
+    → (k : ℕ) → is_in span k ≡ true → is_row_in lines first k ≡ true
+one_in lines first span one told k h =
+    subst (λ (row : ℕ). is_row_in lines first row ≡ true) (only_row span k one h) (row_in lines first span.first told)
+
+-- the lines of all rows, those of a span among them
+pub all_in : (lines : List Bool) (first : ℕ) (span : RowSpan)
+    → ((n : ℕ) → 4 ≤ n → n < 24 → slice_get lines n ≡ Some false → ⊥)
+    → (k : ℕ) → is_in span k ≡ true → is_row_in lines first k ≡ true
+all_in lines first span told k h = row_in lines first k (λ n least most out. absurd (told n least most out))

@@ -1,5 +1,5 @@
 -- What a key may have touched of the sheet.
-use Rattle.std.proofs.Common.{◌≡◌, ℕ, Bool, true, false, refl, ap, sym, subst, ◌∙◌}
+use Rattle.std.proofs.Common.{◌≡◌, ℕ, Bool, true, false, Option, None, Some, refl, ap, sym, subst, ◌∙◌}
 use Rattle.std.specs.FinMap.{get}
 use Rattle.std.specs.Prelude.{◌&&◌, if◌then◌else◌, not}
 use Rattle.std.proofs.lemmas.Bool.{false_from_ne_true, false≢true, true≢false}
@@ -8,6 +8,8 @@ use Rattle.formula_parts.specs.declared.look.Scene.{Scene}
 use Rattle.formula_tree.specs.declared.value.Content.{Content}
 use Rattle.grid_address.proofs.Places.{same_place_is}
 use Rattle.grid_address.specs.Place.{same_place, Place}
+use Rattle.macro_engine.specs.RowSpans.{is_in, ChangesRows}
+use Rattle.macro_engine.specs.declared.row_span.RowSpan.{RowSpan}
 use Rattle.screen_layout.specs.inner.Alike.{AreAlike}
 use Rattle.sheet_edits.proofs.Beside.{beside}
 use Rattle.sheet_edits.specs.Edits.{entered, written, written_state}
@@ -15,13 +17,10 @@ use Rattle.sheet_store.specs.Grid.{is_formula, Grid}
 use Rattle.work_sheet.specs.Doing.{context_in, put, quiet, recalculated, settled}
 use Rattle.work_sheet.specs.Seen.{Sheet}
 use Rattle.session_core.specs.Moving.{IsMoved}
-use Rattle.session_core.specs.inner.Touches.{touches_row, IsSettled, Settles, Touches}
+use Rattle.session_core.proofs.Settled.{alike_beside}
+use Rattle.session_core.specs.inner.Touches.{touches_row, AreTouched, IsSettled, Settles, Touches}
 use Rattle.session_core.specs.declared.touched.Touched.{Touched}
 use Rattle.session_core.specs.declared.touched.Touched.TheVariants as touched
-
--- where anything may be touched, any change touches no more
-pub anything_touches : (x : Touched) (first : ℕ) (s t : Sheet) → x ≡ touched.Anything → Touches x first s t
-anything_touches x first s t any = subst (λ (y : Touched). Touches y first s t) (sym any) tt
 
 same_alike : (rows : ℕ → Bool) (s : Sheet) → AreAlike rows s s
 same_alike rows s =
@@ -101,11 +100,39 @@ module _ (s m n t : Sheet) (scene there : Scene) (c : Place) (x : Content) (entr
       entry_alike (touches_row (touched.Rows lines) first) row settles
   entry_touches touched.Anything first row settles = tt
 
--- what was touched behind a step that left the sheet, or may have touched anything
-pub touches_behind : (left : Bool) (x y : Touched) (first last : ℕ) (s m t : Sheet) → (left ≡ true → m ≡ s)
-    → last ≡ first → (left ≡ true → y ≡ x) → (left ≡ false → y ≡ touched.Anything) → Touches x last m t
-    → Touches y first s t
-touches_behind true x y first last s m t leaves corner same any h =
-    subst (λ (z : Touched). Touches z first s t) (sym (same refl))
-    (subst (λ (n : ℕ). Touches x n s t) corner (subst (λ (u : Sheet). Touches x last u t) (leaves refl) h))
-touches_behind false x y first last s m t leaves corner same any h = anything_touches y first s t (any refl)
+-- what a step that left the sheet or told rows or none has touched
+by_rows : (rows : Option RowSpan) (x : Touched) (first : ℕ) (s t : Sheet) → AreTouched rows first x
+    → ChangesRows rows s t → Touches x first s t
+by_rows None touched.Nothing first s t h changes = absurd h
+by_rows None touched.Pointer first s t h changes = absurd h
+by_rows None (touched.Rows lines) first s t h changes = absurd h
+by_rows None touched.Anything first s t h changes = tt
+by_rows (Some span) touched.Nothing first s t h changes = absurd h
+by_rows (Some span) touched.Pointer first s t h changes = absurd h
+by_rows (Some span) (touched.Rows lines) first s t h changes =
+    alike_beside (is_in span) (touches_row (touched.Rows lines) first) s t h changes
+by_rows (Some span) touched.Anything first s t h changes = absurd h
+
+-- the same, by whether it left the sheet
+pub step_touches : (left : Bool) (rows : Option RowSpan) (x : Touched) (first : ℕ) (s t : Sheet)
+    → (left ≡ true → t ≡ s) → (left ≡ true → x ≡ touched.Nothing) → (left ≡ false → AreTouched rows first x)
+    → ChangesRows rows s t → Touches x first s t
+step_touches true rows x first s t leaves still told changes =
+    subst (λ (y : Touched). Touches y first s t) (sym (still refl)) (leaves refl)
+step_touches false rows x first s t leaves still told changes = by_rows rows x first s t (told refl) changes
+
+-- what was touched behind a step that touched nothing
+pub touches_alone : (x y : Touched) → x ≡ touched.Nothing → (first : ℕ) (s m t : Sheet) → Touches x first s m
+    → Touches y first m t → Touches y first s t
+touches_alone x y still first s m t before h =
+    subst (λ (u : Sheet). Touches y first u t) (subst (λ (z : Touched). Touches z first s m) still before) h
+
+-- what was touched by a step where nothing was behind it
+pub touches_before : (x y : Touched) → y ≡ touched.Nothing → (first : ℕ) (s m t : Sheet) → Touches x first s m
+    → Touches y first m t → Touches x first s t
+touches_before x y still first s m t h behind =
+    subst (λ (u : Sheet). Touches x first s u) (sym (subst (λ (z : Touched). Touches z first m t) still behind)) h
+
+-- of an act at a row that a step left at the top
+pub touches_at : (x : Touched) (first last : ℕ) (s t : Sheet) → last ≡ first → Touches x last s t → Touches x first s t
+touches_at x first last s t same h = subst (λ (n : ℕ). Touches x n s t) same h

@@ -178,6 +178,13 @@ impl Machine {
         self.desk.sheet.settings().pointer
     }
 
+    // The row at the top of the screen.
+    fn top_row(&self) -> u16
+        ensures { result ≡ self.now.state.corner.row }
+    {
+        self.corner.row
+    }
+
     // What formulas look at beside the sheet.
     fn scene(&self, now: &Moment) -> Scene
         ensures { result ≡ scene_at self.now.state now.now }
@@ -618,13 +625,14 @@ impl Machine {
         ensures touched { IfOk result (λ t. HasTouched t.touched self.old.state self.new.state) }
     {
         let scene = self.scene(now);
+        let first = self.top_row();
         let mut rows = None;
         let end = self
             .engine
             .step(&mut self.desk.sheet, &scene, &mut self.tally, &mut rows)?;
-        let is_left = end.leaves_sheet();
+        let step = Touched::by_step(end.leaves_sheet(), rows, first);
         let taken = self.come_to(end, now, shelf)?;
-        Ok(taken.behind(is_left))
+        Ok(taken.behind(step))
     }
 
     // The macro that waits takes a key; what the session is doing stays.
@@ -638,13 +646,14 @@ impl Machine {
         ensures touched { IfOk result (λ t. HasTouched t.touched self.old.state self.new.state) }
     {
         let scene = self.scene(now);
+        let first = self.top_row();
         self.end = false;
         let end = self
             .engine
             .answer(key, &mut self.desk.sheet, &scene, &mut self.tally)?;
-        let is_left = end.leaves_sheet();
+        let step = Touched::by_step(end.leaves_sheet(), None, first);
         let taken = self.come_to(end, now, shelf)?;
-        Ok(taken.behind(is_left))
+        Ok(taken.behind(step))
     }
 
     // BREAK stops the macro that runs, unless it has switched BREAK off.

@@ -1,7 +1,9 @@
 -- How the session keeps in mind what a key may have touched of the sheet: it paints no line that shows none of that.
-use Rattle.std.specs.Prelude.{◌≡◌, ℕ, ◌+◌, ◌-◌, ◌&&◌, Bool, true, false, get_or, if◌then◌else◌, nat_le, nat_lt, List}
+use Rattle.std.specs.Prelude.{◌≡◌, ℕ, ◌+◌, ◌-◌, ◌&&◌, ⊤, Bool, true, false, get_or, if◌then◌else◌, nat_le, nat_lt, List, Option, None, Some}
 use Rattle.formula_eval.specs.Mean.{mean}
 use Rattle.formula_parts.specs.declared.look.Scene.{Scene}
+use Rattle.macro_engine.specs.RowSpans.{is_in}
+use Rattle.macro_engine.specs.declared.row_span.RowSpan.{RowSpan}
 use Rattle.screen_layout.specs.inner.Alike.{AreAlike}
 use Rattle.work_sheet.specs.Doing.{recalculated}
 use Rattle.work_sheet.specs.Seen.{Sheet}
@@ -44,3 +46,9 @@ Settles touched.Nothing first s = IsSettled (touches_row touched.Nothing first) 
 Settles touched.Pointer first s = IsSettled (touches_row touched.Pointer first) s
 Settles (touched.Rows lines) first s = IsSettled (touches_row (touched.Rows lines) first) s
 Settles touched.Anything first s = Unit {0}
+
+-- what a step touched that told these rows is their lines at least; one that told none may have touched anything
+abbrev pub AreTouched : Option RowSpan → ℕ → Touched → Type 0
+AreTouched None first touched.Anything = ⊤
+AreTouched (Some span) first (touched.Rows lines) = (k : ℕ) → is_in span k ≡ true → is_row_in lines first k ≡ true
+AreTouched rows first _ = ⊥

@@ -1,11 +1,12 @@
-use Rattle.std.proofs.Common.{◌≡◌, rules, false, sym, ◌∙◌}
+use Rattle.std.proofs.Common.{◌≡◌, rules, ℕ, None, false, subst, sym, ◌∙◌}
 use Rattle.list_lemmas.proofs.Results.{on_err_always}
 use Rattle.commands_file.proofs.Broken.{none_over}
 use Rattle.macro_engine.specs.Keys.{key_step}
 use Rattle.session_core.proofs.Alone.{no_replies}
 use Rattle.session_core.proofs.Stepping.{answered_over, ends_as, stepped_over, unmarked}
-use Rattle.session_core.proofs.Touching.{touches_behind}
-use Rattle.work_sheet.specs.Seen.{of_worksheet}
+use Rattle.session_core.proofs.Touching.{step_touches, touches_at}
+use Rattle.session_core.specs.inner.Touches.{Touches}
+use Rattle.work_sheet.specs.Seen.{of_worksheet, Sheet}
 use Rattle.session_core.specs.Machine.{sheet_of}
 use Rattle.session_core.specs.Step.{by_waiting_macro}
 use Rattle.macro_engine.proofs.Stepping.{key_leaves, stepped_leaves}
@@ -24,14 +25,20 @@ returns-clause-ok g c =
     c.scene-scene.ensures (search rules) (search rules) (search rules) (search rules) (search rules)
     (search rules) c.in_ok-end.ensures.step c.in_ok-taken.ensures.ok))
 
--- where the step left the sheet, what follows touched alone counts
+-- what the step touched, and what follows it
 pub returns-clause-touched : goal.returns-clause-touched
 returns-clause-touched g c =
     let was : of_worksheet c.self.inside.desk.sheet ≡ sheet_of c.args.self.now.state = search rules in
-    touches_behind _ _ _ _ _ _ _ _
+    let first : ℕ = c.args.self.now.state.corner.row in
+    c.behind.ensures.both first _ _ _
+    (subst (λ (s : Sheet). Touches c.by_step-step.result first s (of_worksheet c.answer.new.sheet)) was
+    (touches_at _ first _ _ _ c.top_row-first.ensures
+    (step_touches c.leaves_sheet.result None c.by_step-step.result _ (of_worksheet c.self.inside.desk.sheet)
+    (of_worksheet c.answer.new.sheet)
     (λ h. stepped_leaves _ _ _ c.self.inside.desk.sheet c.answer.new.sheet _ _
-    (key_leaves _ c.args.key _ _) c.in_ok-end.ensures.step (sym c.leaves_sheet-is_left.ensures ∙ h) ∙ was)
-    (search rules) c.behind.ensures.left c.behind.ensures.worked c.in_ok-taken.ensures.touched
+    (key_leaves _ c.args.key _ _) c.in_ok-end.ensures.step (sym c.leaves_sheet.ensures ∙ h))
+    c.by_step-step.ensures.left c.by_step-step.ensures.worked tt)))
+    (touches_at _ first _ _ _ (search rules) c.in_ok-taken.ensures.touched)
 
 -- no call was made of the shelf
 pub returns-in_err-end-clause-memory : goal.returns-in_err-end-clause-memory
