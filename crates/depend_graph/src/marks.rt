@@ -28,6 +28,7 @@ pub struct Marks {
 }
 
 // Where a cell stands in a list, if it is marked there.
+#[inline(always)]
 fn place_among(few: &[Marked], cell: Cell) -> Option<usize>
     ensures some { IfSome result (λ at. StandsAt few.now at cell) }
     ensures none { IfNone result (is_among few.now cell ≡ false) }
@@ -79,6 +80,7 @@ impl Marks {
     }
 
     /// The mark of a cell, 0 where it has none.
+    #[inline(always)]
     pub fn mark_at(&self, cell: Cell) -> u32
         ensures { result ≡ mark_at self.now cell }
     {
@@ -89,6 +91,7 @@ impl Marks {
     }
 
     /// Marks a cell.
+    #[inline(always)]
     pub fn put_mark(&mut self, cell: Cell, mark: u32) -> Result<(), Memory>
         ensures { OnOk result ((d : Place) → InSheet d → mark_at self.new d
             ≡ cond (same_place cell d) mark (mark_at self.old d)) }
@@ -103,6 +106,7 @@ impl Marks {
     }
 
     // Marks a cell that isn't in the list.
+    #[inline(always)]
     fn add(&mut self, cell: Cell, mark: u32) -> Result<(), Memory>
         requires { is_among self.old.few.items cell ≡ false }
         ensures { OnOk result ((d : Place) → InSheet d → mark_at self.new d
@@ -112,7 +116,9 @@ impl Marks {
             self.few.push(Marked { cell, mark })?;
             return Ok(());
         }
-        self.spread()?;
+        if !self.few.is_empty() {
+            self.spread()?;
+        }
         put_number(&mut self.table, cell, mark)
     }
 

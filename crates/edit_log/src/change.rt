@@ -83,6 +83,7 @@ impl Change {
     }
 
     /// A cell with an equal state to that which it has in a store, or with none.
+    #[inline(always)]
     pub fn at(store: &Store, cell: Cell) -> Result<Change, Memory>
         ensures { IfOk result (λ c. c ≡ (cell, map.get store.now.cells cell)) }
     {
