@@ -127,6 +127,18 @@ fn add_value(total: &mut Total, value: &ValueRef<'_>) -> bool
     }
 }
 
+// Adds a cell, which mostly is a number; false where it is ERR or NA, or where there is no room.
+#[inline(always)]
+fn add_cell<K: Look>(total: &mut Total, cell: Cell, look: &K) -> bool
+    ensures { let value = (K.sight look.now).values cell in
+        result ≡ true → (l : List Item) → IsTotal total.old l → IsTotal total.new (l ++ in_range value) }
+{
+    match look.number(cell) {
+        Some(number) => add_item(total, Item::Is(number)),
+        None => add_value(total, &look.value(cell)),
+    }
+}
+
 // Adds the cells of a row of a range.
 fn add_row<K: Look>(total: &mut Total, span: Span, row: u16, look: &K) -> bool
     requires { row < height_of span }
@@ -135,7 +147,7 @@ fn add_row<K: Look>(total: &mut Total, span: Span, row: u16, look: &K) -> bool
         IsTotal total.new (l ++ items_in (K.sight look.now).values cells) }
 {
     for col in 0..span.width() {
-        if !add_value(total, &look.value(cell_at(span, row, col))) {
+        if !add_cell(total, cell_at(span, row, col), look) {
             return false;
         }
     }

@@ -1,4 +1,4 @@
-use Rattle.std.proofs.Common.{◌≡◌, ◌+◌, ◌++◌, ap, subst, arith}
+use Rattle.std.proofs.Common.{◌≡◌, ◌+◌, ◌++◌, ap, refl, subst, arith}
 use Rattle.grid_address.specs.Place.{width_of}
 use Rattle.formula_parts.specs.Lists.{items_in}
 use Rattle.formula_parts.specs.Outlook.{row_cells}
@@ -17,9 +17,9 @@ loop-col-preserved g c =
     let values = (g.K.Look.sight c.args.look.now).values in
     let span = c.args.span in
     λ m is.
-    subst (IsTotal c.add_value.new.total) (cell_put values (span.first.row + c.args.row) span.first.col c.loop-col.col m
-    _ _ c.value.ensures c.cell_at.ensures.row c.cell_at.ensures.col)
-    (c.add_value.ensures c.if-not-add_value.false _ (c.loop-col.invariant m is))
+    subst (IsTotal c.add_cell.new.total) (cell_put values (span.first.row + c.args.row) span.first.col c.loop-col.col m
+    _ _ refl c.cell_at.ensures.row c.cell_at.ensures.col)
+    (c.add_cell.ensures c.if-not-add_cell.false _ (c.loop-col.invariant m is))
 
 pub returns : goal.returns
 returns g c =

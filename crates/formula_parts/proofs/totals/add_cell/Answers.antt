@@ -1,0 +1,15 @@
+use Rattle.std.proofs.Common.{◌++◌, subst, sym}
+use Rattle.formula_tree.specs.declared.value.Value.{Value}
+use Rattle.formula_parts.specs.Lists.{in_range}
+use Rattle.formula_parts.specs.inner.Totals.{IsTotal}
+use Rattle.formula_parts.proofs.totals.add_cell.Goals as goal
+
+pub returns-in-Some : goal.returns-in-Some
+returns-in-Some g c = λ added l is.
+    subst (λ (v : Value). IsTotal c.add_item.new.total (l ++ in_range v)) (sym c.in-Some.ensures.some)
+    (c.add_item.ensures added l is)
+
+pub returns-in-None : goal.returns-in-None
+returns-in-None g c = λ added l is.
+    subst (λ (v : Value). IsTotal c.add_value.new.total (l ++ in_range v)) c.value.ensures
+    (c.add_value.ensures added l is)
