@@ -2,9 +2,8 @@
 ghost use Rattle.std.specs.Prelude.{◌≡◌, ◌≤◌, ◌<◌, ◌+◌, ◌++◌, ◌⊎◌, Ok, Err, OnOk, IfErr, length, drop};
 ghost use Rattle.wk1_file.specs.Files.{has_bof, IsFile};
 ghost use Rattle.wk1_records.specs.Meanings.{meaning_by};
-ghost use Rattle.wk1_file.specs.Sheets.{start, with_entry};
-ghost use Rattle.wk1_file.specs.inner.Takes.{as_progress, IsMinded, Makes};
-ghost use Rattle.wk1_records.specs.declared.entry.Entry.{Entry};
+ghost use Rattle.wk1_file.specs.Sheets.{start};
+ghost use Rattle.wk1_file.specs.inner.Takes.{as_progress, IsMinded, IsTaken, Makes};
 ghost use Rattle.wk1_records.specs.declared.fault.Wk1Fault.TheVariants as fault;
 
 use crate::take::{Loading, take};
@@ -49,7 +48,9 @@ fn fresh(alloc: Global) -> Loading
     }
 }
 
-// Takes what one more record says.
+// Takes what one more record says. It stands within the code around it, which knows the kind, so that little of it is
+// asked again.
+#[inline(always)]
 fn take_record(
     alloc: Global,
     codes: &mut ReadCodes,
@@ -59,8 +60,7 @@ fn take_record(
     body: &[u8],
 ) -> Result<(), Wk1Fault>
     requires { IsMinded (as_progress loading.old) }
-    ensures taken { OnOk result ((e : Entry) × (meaning_by number body.now kind ≡ Ok e)
-        × (as_progress loading.new ≡ with_entry (as_progress loading.old) e)) }
+    ensures taken { OnOk result (IsTaken number body.now kind (as_progress loading.old) (as_progress loading.new)) }
     ensures minded { OnOk result (IsMinded (as_progress loading.new)) }
     ensures fault { IfErr result (λ f. (f ≡ fault.Memory) ⊎ (meaning_by number body.now kind ≡ Err f)) }
 {
@@ -70,6 +70,33 @@ fn take_record(
             Err(Memory) => Err(Wk1Fault::Memory),
         },
         Err(fault) => Err(fault),
+    }
+}
+
+// Takes one more record: each kind of nearly all cells by code of its own.
+fn take_by_kind(
+    kind: RecordKind,
+    number: u32,
+    body: &[u8],
+    loading: &mut Loading,
+    codes: &mut ReadCodes,
+    alloc: Global,
+) -> Result<(), Wk1Fault>
+    requires { IsMinded (as_progress loading.old) }
+    ensures fault { IfErr result (λ f. (f ≡ fault.Memory) ⊎ (meaning_by number body.now kind ≡ Err f)) }
+    ensures minded { OnOk result (IsMinded (as_progress loading.new)) }
+    ensures taken { OnOk result (IsTaken number body.now kind (as_progress loading.old) (as_progress loading.new)) }
+{
+    match kind {
+        RecordKind::Integer => {
+            take_record(alloc, codes, loading, number, RecordKind::Integer, body)
+        }
+        RecordKind::Number => take_record(alloc, codes, loading, number, RecordKind::Number, body),
+        RecordKind::Label => take_record(alloc, codes, loading, number, RecordKind::Label, body),
+        RecordKind::Formula => {
+            take_record(alloc, codes, loading, number, RecordKind::Formula, body)
+        }
+        _ => take_record(alloc, codes, loading, number, kind, body),
     }
 }
 
@@ -86,7 +113,7 @@ fn read_records(alloc: Global, bytes: &[u8]) -> Result<SavedSheet, Wk1Fault>
         if kind == EOF {
             return Ok(loading.sheet);
         }
-        match take_record(alloc, &mut codes, &mut loading, number, kind_of(kind), body) {
+        match take_by_kind(kind_of(kind), number, body, &mut loading, &mut codes, alloc) {
             Ok(()) => {}
             Err(fault) => return Err(fault),
         }

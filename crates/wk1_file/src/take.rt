@@ -150,6 +150,7 @@ pub struct Loading {
 }
 
 /// Puts what a record says into the sheet.
+#[inline(always)]
 pub fn take(loading: &mut Loading, entry: Entry) -> Result<(), Memory>
     requires entry { IsEntry entry }
     requires minded { IsMinded (as_progress loading.old) }

@@ -18,6 +18,7 @@ use std::alloc::Global;
 use wk1_formula::short_at;
 
 // Whether a body begins with a format byte and a cell.
+#[inline(always)]
 fn has_head(kind: RecordKind) -> bool
     ensures { result ≡ has_head kind }
 {
@@ -40,6 +41,7 @@ fn has_code(body: &[u8]) -> bool
 }
 
 // Whether a body has the least length of its type.
+#[inline(always)]
 fn is_long(kind: RecordKind, body: &[u8]) -> bool
     ensures { result ≡ not (nat_lt (length body.now) (least_length kind body.now)) }
 {
@@ -83,6 +85,7 @@ fn plain(alloc: Global, number: u32, kind: RecordKind, body: &[u8]) -> Result<En
 }
 
 // What a record with a head says.
+#[inline(always)]
 fn headed(
     alloc: Global,
     codes: &mut ReadCodes,
@@ -109,6 +112,7 @@ fn headed(
 
 /// What a record says, or why it is faulty: a body that is too short comes first, then a cell outside the sheet. A
 /// formula shares the tree of one with the same code that was read lately.
+#[inline(always)]
 pub fn entry_of(
     alloc: Global,
     codes: &mut ReadCodes,

@@ -137,6 +137,7 @@ pub fn blank_in(body: &[u8], cell: Cell) -> Entry
 }
 
 /// What the record of a whole number says.
+#[inline(always)]
 pub fn integer_in(body: &[u8], cell: Cell) -> Entry
     requires length { INTEGER_LENGTH ≤ length body.now }
     requires cell { cell ≡ cell_of body.now }
@@ -234,6 +235,7 @@ fn label_of(
 }
 
 // What the record of a label says.
+#[inline(always)]
 pub fn label_in(alloc: Global, body: &[u8], number: u32, cell: Cell) -> Result<Entry, Wk1Fault>
     requires length { HEAD ≤ length body.now }
     requires cell { cell ≡ cell_of body.now }
@@ -283,6 +285,7 @@ fn code_in(body: &[u8]) -> &[u8]
 }
 
 // What the record of a formula says, whose code has a tree.
+#[inline(always)]
 fn computed_in(body: &[u8], cell: Cell, formula: Formula) -> Result<Entry, Wk1Fault>
     requires length { NUMBER_LENGTH ≤ length body.now }
     requires cell { cell ≡ cell_of body.now }
@@ -297,6 +300,7 @@ fn computed_in(body: &[u8], cell: Cell, formula: Formula) -> Result<Entry, Wk1Fa
 }
 
 // What the record of a formula says.
+#[inline(always)]
 pub fn formula_in(
     codes: &mut ReadCodes,
     body: &[u8],
@@ -370,6 +374,7 @@ fn constant_in(
 }
 
 // What the record of a number says.
+#[inline(always)]
 pub fn number_in(alloc: Global, body: &[u8], number: u32, cell: Cell) -> Result<Entry, Wk1Fault>
     requires length { NUMBER_LENGTH ≤ length body.now }
     requires cell { cell ≡ cell_of body.now }

@@ -5,7 +5,9 @@ use Rattle.sheet_store.specs.Choices.{is_global_prefix}
 use Rattle.sheet_store.specs.Grid.{is_formula, HasFormula, IsSound}
 use Rattle.sheet_store.specs.Limits.{MOST_WIDTH}
 use Rattle.sheet_store.specs.declared.writes.SavedSheet.{SavedSheet}
+use Rattle.wk1_records.specs.Meanings.{meaning_by}
 use Rattle.wk1_records.specs.Records.{Records, Splits}
+use Rattle.wk1_records.specs.declared.kind.RecordKind.{RecordKind}
 use Rattle.wk1_file.specs.Sheets.{entries_in, first_fault, sheet_of, unless_fault, with_entry, Progress}
 use Rattle.wk1_records.specs.declared.fault.Wk1Fault.{Wk1Fault}
 use Rattle.wk1_records.specs.declared.fault.Wk1Fault.TheVariants as fault
@@ -36,6 +38,10 @@ IsMinded r = (p : Place) → r.formula ≡ Some p → HasFormula r.sheet.store p
 -- what is loaded, as a sheet so far
 abbrev pub as_progress : Loading → Progress
 as_progress l = record { sheet = l.sheet; formula = l.formula }
+
+-- what a record says was taken into a sheet so far
+abbrev pub IsTaken : ℕ → List ℕ → RecordKind → Progress → Progress → Type 0
+IsTaken n body k before now = (e : Entry) × (meaning_by n body k ≡ Ok e) × (now ≡ with_entry before e)
 
 -- what records make of a sheet so far
 abbrev pub sheet_from : ℕ → Progress → Records → Result SavedSheet Wk1Fault
