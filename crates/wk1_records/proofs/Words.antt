@@ -1,6 +1,7 @@
 -- Texts in records: bytes up to a 00, of which none is below 32.
 use Rattle.std.proofs.Common.{◌≡◌, ℕ, zero, suc, ◌≤◌, ◌<◌, Bool, true, false, nat_le, get_or, take, List, [], ◌∷◌}
-use Rattle.std.proofs.Common.{length, refl, ap, arith, sym, ◌∙◌}
+use Rattle.std.proofs.Common.{length, refl, ap, arith, sym, ◌∙◌, length-take}
+use Rattle.std.proofs.lemmas.List.{get_or-take}
 use Rattle.std.specs.List.{list_all}
 use Rattle.std.specs.Prelude.{◌==◌, ◌&&◌, Option, Some, None, Ok, Err, if◌then◌else◌}
 use Rattle.std.proofs.lemmas.Bool.Decides.{nat_tests}
@@ -47,6 +48,16 @@ pub ends_there : (bytes : List ℕ) (at : ℕ) → ((k : ℕ) → k < at → 32 
     → get_or bytes at 0 ≡ 0 → before_zero bytes ≡ Some (take at bytes)
 ends_there bytes at large inside is =
     first_zero bytes at (λ k less z. (let x = large k less in absurd (omega (arith, x, z)))) inside is
+
+-- bytes are large in a list where they are in its front
+pub large_front : (bytes : List ℕ) (at : ℕ) → at ≤ length bytes
+    → ((k : ℕ) → k < length (take at bytes) → 32 ≤ get_or (take at bytes) k 0)
+    → (k : ℕ) → k < at → 32 ≤ get_or bytes k 0
+large_front bytes at inside large k less =
+    let there : k < length (take at bytes) = omega (arith, less, inside, length-take at bytes) in
+    let same : get_or (take at bytes) k 0 ≡ get_or bytes k 0 = get_or-take at bytes k 0 less in
+    let x : 32 ≤ get_or (take at bytes) k 0 = large k there in
+    omega (arith, same, x)
 
 -- a byte below 32 before the first 00 is in the text that ends there
 low_byte : (bytes : List ℕ) (at : ℕ) → ((k : ℕ) → k < at → 32 ≤ get_or bytes k 0) → at < length bytes

@@ -1,6 +1,6 @@
 // What a record says.
 ghost use Rattle.std.specs.Int.{from_le_bytes, w64};
-ghost use Rattle.std.specs.Prelude.{◌≡◌, ◌≤◌, ◌<◌, ◌+◌, ◌==◌, not, IfSome, IfNone, IfOk, Ok, Err, Some, true, false, List, ℕ, length, drop, nat_le, take};
+ghost use Rattle.std.specs.Prelude.{◌≡◌, ◌≤◌, ◌<◌, ◌+◌, ◌==◌, not, IfSome, IfNone, IfOk, Ok, Err, Some, true, false, List, ℕ, length, drop, get_or, nat_le, take};
 ghost use Rattle.std.specs.List.{list_all};
 ghost use Rattle.fixed_value.specs.Doubles.{double_of};
 ghost use Rattle.formula_tree.specs.declared.value.Content.TheVariants as content;
@@ -147,9 +147,55 @@ pub fn integer_in(body: &[u8], cell: Cell) -> Entry
     Entry::State(cell, CellState::number(number, format_in(body)))
 }
 
+// Whether no byte is below 32. Each is looked at, so that many are at once.
+fn are_words(bytes: &[u8]) -> bool
+    ensures { result ≡ true → (k : ℕ) → k < length bytes.now → 32 ≤ get_or bytes.now k 0 }
+{
+    let mut least = 255;
+    for at in 0..bytes.len() {
+        least = bytes[at].min(least);
+    }
+    least >= b' '
+}
+
+// The bytes before the last, where that is 00 and none of them is below 32.
+#[inline(always)]
+fn words_before_last(bytes: &[u8]) -> Option<&[u8]>
+    ensures some { IfSome result (λ t. before_zero bytes.now ≡ Some t.now) }
+    ensures words { IfSome result (λ t. list_all (λ b. nat_le ascii.space b) t.now ≡ true) }
+{
+    if bytes.len() == 0 {
+        return None;
+    }
+    let last = bytes.len() - 1;
+    let front = &bytes[..last];
+    if are_words(front) {
+        if bytes[last] == 0 {
+            return Some(front);
+        }
+    }
+    None
+}
+
 // The bytes before the first 00, where none of them is below 32. Where there is no 00, or one before it is below 32,
-// there is none, and neither a text nor a label.
+// there is none, and neither a text nor a label. Nearly always that 00 is the last byte.
+#[inline(always)]
 fn words(bytes: &[u8]) -> Option<&[u8]>
+    ensures none { IfNone result ((n : ℕ) (body : List ℕ) →
+        (text_entry n body (before_zero bytes.now) ≡ Err (fault.BadText n))
+        × (label_state n body (before_zero bytes.now) ≡ Err (fault.BadText n))) }
+    ensures some { IfSome result (λ t. before_zero bytes.now ≡ Some t.now) }
+    ensures words { IfSome result (λ t. list_all (λ b. nat_le ascii.space b) t.now ≡ true) }
+{
+    match words_before_last(bytes) {
+        Some(front) => Some(front),
+        None => words_by_byte(bytes),
+    }
+}
+
+// The same byte by byte.
+#[inline(never)]
+fn words_by_byte(bytes: &[u8]) -> Option<&[u8]>
     ensures some { IfSome result (λ t. before_zero bytes.now ≡ Some t.now) }
     ensures words { IfSome result (λ t. list_all (λ b. nat_le ascii.space b) t.now ≡ true) }
     ensures none { IfNone result ((n : ℕ) (body : List ℕ) →

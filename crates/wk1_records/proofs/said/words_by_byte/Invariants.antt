@@ -1,5 +1,5 @@
 use Rattle.std.proofs.Common.{◌≤◌, ◌<◌, ℕ, get_or}
-use Rattle.wk1_records.proofs.said.words.Given as goal
+use Rattle.wk1_records.proofs.said.words_by_byte.Given as goal
 
 -- none of those before is below 32
 abbrev pub invariant-loop-at : goal.invariant-loop-at

@@ -1,6 +1,6 @@
 use Rattle.std.proofs.Common.{◌<◌, arith}
 use Rattle.wk1_records.proofs.Words.{ends_there, endless_refused, front_words, low_refused}
-use Rattle.wk1_records.proofs.said.words.Goals as goal
+use Rattle.wk1_records.proofs.said.words_by_byte.Goals as goal
 
 pub returns-then-bytes-at-eq0-clause-some : goal.returns-then-bytes-at-eq0-clause-some
 returns-then-bytes-at-eq0-clause-some c =
