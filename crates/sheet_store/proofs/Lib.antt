@@ -2,6 +2,7 @@ pub mod Behind
 pub mod Copies
 pub mod Grids
 pub mod Held
+pub mod HeldOrder
 pub mod RowOrder
 pub mod Scans
 pub mod Unused

@@ -7,7 +7,9 @@ ghost use Rattle.grid_address.specs.Place.{place_cmp, InSheet, Place};
 ghost use Rattle.sheet_store.specs.inner.RowOrder.{entries_behind, IsEdge, NextHeld, NoneHeldBehind};
 ghost use Rattle.sheet_store.specs.inner.Scan.{left_from, number_of};
 
+use crate::held_order::{held_from, is_in_order};
 use crate::{CellState, Store};
+use cell_maps::Held;
 use grid_address::{COLUMNS, Cell, LAST_COLUMN, LAST_ROW};
 use std::marker::Model;
 
@@ -18,20 +20,25 @@ pub(crate) struct Edge {
     col: u16,
 }
 
-/// The cells of a store that are still to come, with their states, in row order. The edge of the last band is kept, so
-/// that each of its rows is left there.
+/// The cells of a store that are still to come, with their states, in row order. Where they are held in that order, as
+/// those of a file that was read are, they are gone over as they are held. Else they are looked for place by place, and
+/// the edge of the last band is kept, so that each of its rows is left there.
 #[derive(Drop)]
 pub struct Entries<'a> {
     store: &'a Store,
     from: Option<Cell>,
     edge: Edge,
+    is_run: bool,
+    held: &'a [Held<CellState>],
+    at: usize,
 }
 
 impl<'a> Model for Entries<'a> {
     ghost use Rattle.formula_tree.specs.contracts.formula.Formula as formula;
     ghost use Rattle.std.specs.Coded.{codes};
-    ghost use Rattle.std.specs.Prelude.{List};
+    ghost use Rattle.std.specs.Prelude.{cond, drop, List};
     ghost use Rattle.std.specs.FinMap as map;
+    ghost use Rattle.cell_maps.specs.Filled.{filled};
     ghost use Rattle.grid_address.specs.Place.{Place};
     ghost use Rattle.sheet_store.specs.inner.Scan.{left_from};
     ghost use Rattle.sheet_store.specs.State.{CellState};
@@ -42,7 +49,8 @@ impl<'a> Model for Entries<'a> {
 
     ghost use Rattle.sheet_store.specs.inner.RowOrder.{IsEdge};
 
-    ghost view = { λ e. left_from e.from (map.entries e.store.now.cells) };
+    ghost view = { λ e. cond e.is_run (filled (drop e.at e.held.now))
+        (left_from e.from (map.entries e.store.now.cells)) };
 
     ghost invariant = { λ e. IsEdge e.store.now.cells e.edge };
 }
@@ -53,6 +61,15 @@ impl<'a> Entries<'a> {
         ensures some { IfSome result (λ entry. self.old ≡ (entry.0, entry.1.now) ∷ self.new) }
         ensures none { IfNone result (self.old ≡ []) }
     {
+        if self.is_run {
+            return match held_from(self.held, self.at) {
+                Some(entry) => {
+                    self.at = entry.2;
+                    Some((entry.0, entry.1))
+                }
+                None => None,
+            };
+        }
         self.store.are_held();
         match first_from(self.store, self.from, &mut self.edge) {
             Some(entry) => {
@@ -71,10 +88,14 @@ impl Store {
     {
         self.are_held();
         let first = Cell { row: 0, col: 0 };
+        let held = self.held();
         Entries {
             store: self,
             from: Some(first),
             edge: edge_of(self, first),
+            is_run: is_in_order(held),
+            held,
+            at: 0,
         }
     }
 }

@@ -2,6 +2,7 @@
 #![tactic(auto)]
 
 mod entries;
+mod held_order;
 mod order;
 mod own_width;
 mod scan;

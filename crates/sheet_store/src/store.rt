@@ -111,6 +111,13 @@ impl Store {
         self.cells.band_end(cell)
     }
 
+    // The cells that are held, in the order in which they came in.
+    pub(crate) fn held(&self) -> &[Held<CellState>]
+        ensures { map.from_entries (filled result.now) ≡ self.now.cells }
+    {
+        self.cells.held()
+    }
+
     /// Whether no cell of a span has a state, as far as one look at its band tells: it is false where some may have
     /// one.
     pub fn is_unused(&self, span: Span) -> bool
