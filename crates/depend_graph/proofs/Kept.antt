@@ -1,21 +1,25 @@
 -- Each formula's spans, and each offer's, stay where the slots say.
-use Rattle.std.specs.Prelude.{◌≡◌, Bool, true, false, cond, not, is_some, refl, List, [], ◌∷◌, Option, None, Some}
-use Rattle.std.specs.FinMap.{empty, entries, entries_sorted, get, get-empty}
+use Rattle.std.specs.Prelude.{ℕ, ◌≡◌, Bool, true, false, cond, length, nat_eq, not, is_some, refl, List, [], ◌∷◌}
+use Rattle.std.specs.Prelude.{Option, None, Some}
+use Rattle.std.specs.FinMap.{empty, entries, entries_sorted, from_entries, get, get-empty}
 use Rattle.std.specs.Ordering.{is_eq}
 use Rattle.std.specs.BTreeMap.{is_at}
 use Rattle.std.specs.List.{AllByRecursion}
 use Rattle.std.specs.List.Sorted.{IsStrictlySortedBy}
 use Rattle.std.specs.Map.{keys_of, lookup}
 use Rattle.std.specs.declared.cmp.Ordering.TheVariants.{Less}
-use Rattle.std.proofs.Common.{sym, ◌∙◌, ap, subst, inl, inr}
+use Rattle.std.proofs.Common.{arith, sym, ◌∙◌, ap, subst, inl, inr}
 use Rattle.std.proofs.lemmas.Bool.{cases_Bool, true≢false, false≢true}
+use Rattle.std.proofs.lemmas.Bool.Decides.{nat_tests}
 use Rattle.std.proofs.lemmas.Option.{none-some, same_Some}
+use Rattle.cell_maps.specs.Filled as held
+use Rattle.cell_maps.specs.declared.held.Held.{Held}
 use Rattle.grid_address.proofs.Maps.{equal_of, get_entries, get_lookup, in_order}
 use Rattle.grid_address.proofs.Places.{cells_exact, cells_total, same_place_is, same_places}
 use Rattle.grid_address.specs.Place.{place_cmp, same_place, Extent, Place}
 use Rattle.range_index.specs.Owners.{Owners}
 use Rattle.depend_graph.specs.inner.Banks.{spans_at, wide, AreOthersKept}
-use Rattle.depend_graph.specs.inner.Slots.{filled, had, offer_in, offering, picked, placed, side, somes, turned}
+use Rattle.depend_graph.specs.inner.Slots.{filled, formed, had, offer_in, offering, picked, placed, side, somes, turned}
 use Rattle.depend_graph.specs.inner.Slots.{turned_to, with_some, without, AreRegistered, IsRegistered, Slots, Stands}
 use Rattle.depend_graph.specs.declared.slots.Part.TheVariants.{Formula, Offer}
 use Rattle.depend_graph.specs.declared.node.Node.{Node}
@@ -81,9 +85,23 @@ pub picked_empty : (f : Slot → Option Node) (m : Slots) → m ≡ empty → pi
 picked_empty f m e = same_places _ _ (λ q. get_picked f m q ∙ ap (λ (o : Option Slot). had f o)
     (ap (λ (n : Slots). get n q) e ∙ get-empty place_cmp q) ∙ sym (get-empty place_cmp q))
 
+no_length : (n : ℕ) → nat_eq n 0 ≡ true → n ≡ 0
+no_length n h = grind (arith, nat_tests, h)
+
+-- where no slot was ever put in, nothing is picked
+pub picked_of_none : (f : Slot → Option Node) (hs : List (Held Slot)) (m : Slots) → nat_eq (length hs) 0 ≡ true
+    → from_entries (held.filled hs) ≡ m → picked f m ≡ empty
+picked_of_none f [] m h e = picked_empty f m (sym e ∙ same_places _ _ (λ q. get_entries cells_total [] q
+    ∙ sym (get-empty place_cmp q)))
+picked_of_none f (x ∷ hs) m h e = absurd (omega (arith, no_length (length (x ∷ hs)) h))
+
 stands_at : (o : Option Node) (xs ys : List Extent) → ys ≡ xs → Stands o xs → Stands o ys
 stands_at None xs ys e h = h
 stands_at (Some n) xs ys e h = e ∙ h
+
+no_slot : (o : Option Slot) → is_some o ≡ false → o ≡ None
+no_slot None h = refl
+no_slot (Some s) h = absurd (true≢false h)
 
 apart_not : (x : Bool) → x ≡ not x → ⊥
 apart_not true e = true≢false e
@@ -111,6 +129,18 @@ module _ (m : Slots) (even odd even' odd' : Owners) (b : Bool) (c : Place)
           offer = stands_at s.offer _ _ (kept (not s.is_odd) d (inl f)) r.offer;
         }
   ]
+
+  -- with a formula alone, whose spans are in the even index
+  pub formed_registered : (n : Node) → b ≡ false → spans_at even' odd' b c ≡ wide n.reads
+      → AreRegistered (placed m c (Some (formed n))) even' odd'
+  formed_registered n e is = placed_registered (Some (formed n)) (λ s h.
+      subst (λ (t : Slot). IsRegistered even' odd' c t) (same_Some _ _ h)
+      (record { node = subst (λ x. spans_at even' odd' x c ≡ wide n.reads) e is; offer = tt }))
+
+  -- where nothing stands at c, spans that were begun for it change nothing
+  pub begun_registered : is_some (get m c) ≡ false → AreRegistered m even' odd'
+  begun_registered h = subst (λ (x : Slots). AreRegistered x even' odd') (placed_same m c None (no_slot (get m c) h))
+      (placed_registered None (λ s e. absurd (none-some s e)))
 
   -- where the other index changed, the formula's spans stand
   pub node_stands : (s : Slot) → get m c ≡ Some s → b ≡ not s.is_odd → Stands s.node (spans_at even' odd' s.is_odd c)

@@ -17,7 +17,7 @@ use Rattle.depend_graph.proofs.Placed.{get_placed}
 use Rattle.depend_graph.specs.inner.Banks.{is_one}
 use Rattle.depend_graph.specs.inner.Lists.{items_in, list_at, AreInLists, AreKept, IsInLists, IsInListsOf, IsListed}
 use Rattle.depend_graph.specs.inner.Lists.{Lists}
-use Rattle.depend_graph.specs.inner.Slots.{filled, offering, placed, turned, turned_to, without, Slots}
+use Rattle.depend_graph.specs.inner.Slots.{filled, formed, offering, placed, turned, turned_to, without, Slots}
 use Rattle.depend_graph.specs.declared.slots.Part.TheVariants.{Formula, Offer}
 use Rattle.depend_graph.specs.declared.node.Node.{Node}
 use Rattle.depend_graph.specs.declared.slots.Slot.{Slot}
@@ -136,6 +136,11 @@ module _ (m : Slots) (lists : Lists) (all : AreInLists m lists) (c : Place) wher
         subst (λ p. IsInLists lists p s) (sym (same_place_is d c t)) (here s e)
     | inr f ↦ all d s (sym (get_placed m c o d ∙ ap (λ x. cond x o (get m d)) f) ∙ h)
   ]
+
+  -- with a formula alone
+  pub formed_listed : (n : Node) → IsListed lists c n.reads → AreInLists (placed m c (Some (formed n))) lists
+  formed_listed n l = placed_listed (Some (formed n)) (λ s h.
+      subst (λ (t : Slot). IsInLists lists c t) (same_Some _ _ h) (record { node = l; offer = tt }))
 
   unoffered : (o : Option Slot) → get m c ≡ o → (s : Slot) → without Offer o ≡ Some s → IsInLists lists c s
   unoffered None e s h = absurd (none-some s h)

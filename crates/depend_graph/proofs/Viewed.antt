@@ -7,8 +7,8 @@ use Rattle.grid_address.proofs.Places.{get_inserted, get_removed, same_place_its
 use Rattle.grid_address.specs.Place.{same_place, Place}
 use Rattle.depend_graph.specs.Network.{accepted, dropped, offered, put, promoted, withdrawn, Network}
 use Rattle.depend_graph.specs.inner.Readers.{network_of}
-use Rattle.depend_graph.specs.inner.Slots.{filled, had, node_in, offer_in, offering, picked, placed, turned, turned_to}
-use Rattle.depend_graph.specs.inner.Slots.{without, Slots}
+use Rattle.depend_graph.specs.inner.Slots.{filled, formed, had, node_in, offer_in, offering, picked, placed, turned}
+use Rattle.depend_graph.specs.inner.Slots.{turned_to, without, Slots}
 use Rattle.depend_graph.specs.Network.{Nodes}
 use Rattle.depend_graph.specs.declared.slots.Part.TheVariants.{Formula, Offer}
 use Rattle.depend_graph.specs.declared.node.Node.{Node}
@@ -51,6 +51,12 @@ node_with (Some s) = with s.offer
     with : (n : Option Node) → had node_in (filled n (record s { node = None; offer = n })) ≡ None
     with None = refl
     with (Some n) = refl
+
+-- a slot with a formula alone tells that the formula was put
+pub viewed_formed : (m : Slots) (c : Place) (n : Node)
+    → network_of (placed m c (Some (formed n))) ≡ put (network_of m) c n
+viewed_formed m c n =
+    both (picked_placed node_in m c (Some (formed n))) (picked_placed offer_in m c (Some (formed n)))
 
 -- a slot without its offer tells that the offer was withdrawn
 pub viewed_withdrawn : (m : Slots) (c : Place)

@@ -13,7 +13,9 @@ use crate::closure::closure;
 use crate::in_order::is_in_order;
 use crate::lists::{Lists, add_all};
 use crate::readers::{add_readers, is_unread};
-use crate::slots::{Part, Slot, drop_part, has_offer, node_of, put_offer, side, turn};
+use crate::slots::{
+    Part, Slot, drop_part, has_offer, has_slot, node_of, put_formula, put_offer, side, turn,
+};
 use crate::spread::{LastSpreads, is_of, list_of, order_kept, spread_of};
 use cell_maps::CellMap;
 use grid_address::{Cell, CellList};
@@ -71,6 +73,13 @@ impl Graph {
         ensures { option_copied result ≡ map.get self.now.formulas cell }
     {
         node_of(&self.slots, cell)
+    }
+
+    /// Whether it is known that there is no formula: none was ever put in.
+    pub fn is_empty(&self) -> bool
+        ensures { result ≡ true → self.now.formulas ≡ map.empty }
+    {
+        self.slots.held().is_empty()
     }
 
     /// Whether a cell holds a formula.
@@ -136,13 +145,20 @@ impl Graph {
     }
 
     /// Puts a formula at a cell, and takes the cell's offer back. Where there is no memory, the formulas stay as they
-    /// are.
+    /// are. A cell that has neither takes its formula without an offer before it.
     pub fn set(&mut self, cell: Cell, node: Node) -> Result<(), Memory>
         ensures ok { OnOk result (self.new ≡ put self.old cell node) }
         ensures err { OnErr result (self.new.formulas ≡ self.old.formulas) }
     {
-        self.offer(cell, node)?;
-        self.accept(cell);
+        if has_slot(&self.slots, cell) {
+            self.offer(cell, node)?;
+            self.accept(cell);
+            return Ok(());
+        }
+        self.spread = LastSpreads::none();
+        add_all(&mut self.lists, self.alloc, node.reads.as_slice(), cell)?;
+        self.banks.fill(false, cell, &node.reads)?;
+        put_formula(&mut self.slots, cell, node)?;
         Ok(())
     }
 

@@ -1,7 +1,7 @@
 // The formula of each cell, with the one that it will have.
 ghost use Rattle.std.specs.Prelude.{◌≡◌, OnOk, OnErr, option_copied, Some, None, is_some};
 ghost use Rattle.std.specs.FinMap as map;
-ghost use Rattle.depend_graph.specs.inner.Slots.{cleared, had, node_in, offer_in, offering, other_in, placed, side, turned, turned_to, without};
+ghost use Rattle.depend_graph.specs.inner.Slots.{cleared, formed, had, node_in, offer_in, offering, other_in, placed, side, turned, turned_to, without};
 
 use crate::Node;
 use cell_maps::CellMap;
@@ -51,6 +51,27 @@ pub fn has_offer(slots: &CellMap<Slot>, cell: Cell) -> bool
         Some(slot) => slot.offer.is_some(),
         None => false,
     }
+}
+
+/// Whether the cell has a slot.
+pub fn has_slot(slots: &CellMap<Slot>, cell: Cell) -> bool
+    ensures { result ≡ is_some (map.get slots.now cell) }
+{
+    slots.get(cell).is_some()
+}
+
+/// Puts a formula at the cell, which has no slot. The slots are as before where there is no memory.
+pub fn put_formula(slots: &mut CellMap<Slot>, cell: Cell, node: Node) -> Result<(), Memory>
+    ensures ok { OnOk result (slots.new ≡ placed slots.old cell (Some (formed node))) }
+    ensures err { OnErr result (slots.new ≡ slots.old) }
+{
+    let slot = Slot {
+        node: Some(node),
+        offer: None,
+        is_odd: false,
+    };
+    slots.insert(cell, slot)?;
+    Ok(())
 }
 
 // An offer takes the place of the one before it.

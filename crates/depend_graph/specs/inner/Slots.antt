@@ -51,6 +51,10 @@ abbrev pub offering : Option Slot → Node → Slot
 offering None n = record { node = None; offer = Some n; is_odd = false }
 offering (Some s) n = record s { offer = Some n }
 
+-- a slot with a formula alone
+abbrev pub formed : Node → Slot
+formed n = record { node = Some n; offer = None; is_odd = false }
+
 -- which index has the spans of a cell's formula
 abbrev pub side : Option Slot → Bool
 side None = false
