@@ -3,6 +3,7 @@ pub mod Dirtied
 pub mod Gathering
 pub mod Listed
 pub mod Overlaid
+pub mod Plain
 pub mod Reaching
 pub mod Sound
 pub mod Spanned

@@ -1,7 +1,8 @@
 // States that cells are to have.
-ghost use Rattle.std.specs.Prelude.{◌≡◌, IfOk, OnOk, option_copied};
+ghost use Rattle.std.specs.Prelude.{◌≡◌, IfOk, OnOk, option_copied, true};
 ghost use Rattle.std.specs.FinMap as map;
 ghost use Rattle.grid_address.specs.Place.{place_cmp};
+ghost use Rattle.sheet_edits.specs.inner.Putting.{GivePlain};
 
 use cell_maps::CellMap;
 use grid_address::Cell;
@@ -14,12 +15,16 @@ use std::marker::Model;
 #[derive(Drop)]
 pub struct Changes {
     states: CellMap<CellState>,
+    // Whether a formula was ever among them.
+    have_formulas: bool,
 }
 
 impl Model for Changes {
     ghost use Rattle.formula_tree.specs.contracts.formula.Formula as formula;
     ghost use Rattle.std.specs.Coded.{codes};
     ghost use Rattle.std.specs.FinMap as map;
+    ghost use Rattle.std.specs.Prelude.{◌≡◌, false};
+    ghost use Rattle.sheet_edits.specs.inner.Putting.{GivePlain};
     ghost use Rattle.sheet_store.specs.Grid.{Cells};
 
     ghost Value = { Cells };
@@ -27,6 +32,8 @@ impl Model for Changes {
     ghost coded = { Prim.hlevel (codes, map.code, formula.the_row.coded) };
 
     ghost view = { λ a. a.states };
+
+    ghost invariant = { λ a. a.have_formulas ≡ false → GivePlain a.states };
 }
 
 impl Changes {
@@ -36,6 +43,7 @@ impl Changes {
     {
         Changes {
             states: CellMap::new(alloc),
+            have_formulas: false,
         }
     }
 
@@ -60,8 +68,16 @@ impl Changes {
     pub fn set(&mut self, cell: Cell, state: CellState) -> Result<(), Memory>
         ensures { OnOk result (self.new ≡ map.insert self.old cell state) }
     {
+        self.have_formulas = self.have_formulas || state.is_formula();
         self.states.insert(cell, state)?;
         Ok(())
+    }
+
+    /// Whether it is known that none of the states is a formula.
+    pub fn are_plain(&self) -> bool
+        ensures { result ≡ true → GivePlain self.now }
+    {
+        !self.have_formulas
     }
 
     /// The state of a cell; none where it has none.

@@ -11,7 +11,7 @@ ghost use Rattle.sheet_store.specs.State.{CellState};
 ghost use Rattle.sheet_edits.specs.Edits.{just, AreDirtied};
 ghost use Rattle.sheet_edits.specs.inner.Settling.{WithReached};
 ghost use Rattle.sheet_edits.specs.Spans.{changed, AreSound, Becomes};
-ghost use Rattle.sheet_edits.specs.inner.Putting.{gives_formula, node_given, put_given, ArePut, HaveRoom, IsGrown, IsOffered};
+ghost use Rattle.sheet_edits.specs.inner.Putting.{gives_formula, node_given, put_given, ArePut, GivePlain, HaveRoom, IsGrown, IsOffered};
 
 use crate::changes::Changes;
 use crate::edit::{node_of, offer, settle};
@@ -79,8 +79,11 @@ fn is_new(store: &Store, cell: Cell, changes: &Changes) -> bool
     ensures rest { result ≡ false → (s : CellState) → map.get changes.now cell ≡ Some s → is_kept s ≡ true →
         map.get store.now.cells cell ≡ None → ⊥ }
 {
+    if store.get(cell).is_some() {
+        return false;
+    }
     match changes.get(cell) {
-        Some(state) => state.is_kept() && store.get(cell).is_none(),
+        Some(state) => state.is_kept(),
         None => false,
     }
 }
@@ -277,8 +280,17 @@ fn prepare_all(
     Ok(())
 }
 
+// Whether it is known that there is no formula, and that none comes.
+fn is_plain(graph: &Graph, changes: &Changes) -> bool
+    ensures none { result ≡ true → graph.now.formulas ≡ map.empty }
+    ensures plain { result ≡ true → GivePlain changes.now }
+{
+    changes.are_plain() && graph.is_empty()
+}
+
 /// Writes states into cells. A written cell that isn't given a state keeps its own. Where there is no memory, the store
-/// and the dirty set are as before, and so are the formulas of the graph.
+/// and the dirty set are as before, and so are the formulas of the graph. Where there is no formula before and none
+/// comes, the states are put, and nothing else is done.
 pub fn write_cells(
     store: &mut Store,
     graph: &mut Graph,
@@ -299,6 +311,10 @@ pub fn write_cells(
     ensures store_err { OnErr result (store.new ≡ store.old) }
     ensures dirty_err { OnErr result (dirty.new.keys ≡ dirty.old.keys) }
 {
+    if is_plain(graph, &changes) {
+        change_cells(store, cells.as_slice(), changes)?;
+        return Ok(());
+    }
     let count = dirty.len();
     match prepare_all(store, graph, dirty, cells, &mut changes) {
         Ok(()) => {

@@ -21,6 +21,10 @@ abbrev pub gives_formula : Option CellState → Bool
 gives_formula None = false
 gives_formula (Some s) = is_formula s.content
 
+-- no change gives a formula
+abbrev pub GivePlain : Cells → Type 0
+GivePlain changes = (c : Place) → gives_formula (cells.get changes c) ≡ false
+
 -- what is offered to the graph for a change
 abbrev pub node_given : Option CellState → Place → Option Node
 node_given None c = None
