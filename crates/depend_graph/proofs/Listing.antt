@@ -2,7 +2,6 @@
 use Rattle.std.specs.Prelude.{ℕ, ◌≡◌, ◌<◌, ◌≤◌, ◌+◌, ◌&&◌, ◌||◌, nat_le, Bool, true, false, cond, refl, length, take}
 use Rattle.std.specs.Prelude.{drop, List, [], ◌∷◌, ◌++◌, Option, None, Some}
 use Rattle.std.specs.FinMap.{empty, get, get-empty, insert}
-use Rattle.std.specs.Global.{Vec}
 use Rattle.std.specs.List.{filter}
 use Rattle.std.proofs.Common.{sym, ◌∙◌, ap, subst, inl, inr, arith, get_or}
 use Rattle.std.proofs.lemmas.Bool.{and_parts, cases_Bool, false≢true, leb-true, or_cases, or_left, or_right}
@@ -15,10 +14,11 @@ use Rattle.grid_address.specs.Place.{is_within, place_cmp, same_place, Extent, P
 use Rattle.range_index.specs.Owners.{hold}
 use Rattle.depend_graph.proofs.Placed.{get_placed}
 use Rattle.depend_graph.specs.inner.Banks.{is_one}
-use Rattle.depend_graph.specs.inner.Lists.{items_in, list_at, AreInLists, AreKept, IsInLists, IsInListsOf, IsListed}
-use Rattle.depend_graph.specs.inner.Lists.{Lists}
+use Rattle.depend_graph.specs.inner.Lists.{cells_in, items_in, list_at, AreInLists, AreKept, IsInLists, IsInListsOf}
+use Rattle.depend_graph.specs.inner.Lists.{IsListed, Lists}
 use Rattle.depend_graph.specs.inner.Slots.{filled, formed, offering, placed, turned, turned_to, without, Slots}
 use Rattle.depend_graph.specs.declared.slots.Part.TheVariants.{Formula, Offer}
+use Rattle.depend_graph.specs.declared.lists.Readers.{Readers}
 use Rattle.depend_graph.specs.declared.node.Node.{Node}
 use Rattle.depend_graph.specs.declared.slots.Slot.{Slot}
 
@@ -31,19 +31,19 @@ pub kept_on : (a b m : Lists) → AreKept a b → AreKept b m → AreKept a m
 kept_on a b m f g c d h = g c d (f c d h)
 
 -- a list that is put in with all that the cell's list had keeps what stood in lists
-pub kept_inserted : (m m' : Lists) (c : Place) (v : Vec Place)
+pub kept_inserted : (m m' : Lists) (c : Place) (v : Readers)
     → ((d : Place) → get m' d ≡ cond (same_place d c) (Some v) (get m d))
-    → ((d : Place) → has same_place (list_at m c) d ≡ true → has same_place v.items d ≡ true) → AreKept m m'
+    → ((d : Place) → has same_place (list_at m c) d ≡ true → has same_place (cells_in v) d ≡ true) → AreKept m m'
 kept_inserted m m' c v is more d x h = elim (cases_Bool (same_place d c)) [
-  | inl t ↦ ap (λ (o : Option (Vec Place)). has same_place (items_in o) x) (is d ∙ ap (λ b. cond b (Some v) (get m d))
+  | inl t ↦ ap (λ (o : Option Readers). has same_place (items_in o) x) (is d ∙ ap (λ b. cond b (Some v) (get m d))
       t) ∙ more x (sym (ap (λ p. has same_place (list_at m p) x) (same_place_is d c t)) ∙ h)
-  | inr f ↦ ap (λ (o : Option (Vec Place)). has same_place (items_in o) x)
+  | inr f ↦ ap (λ (o : Option Readers). has same_place (items_in o) x)
       (is d ∙ ap (λ b. cond b (Some v) (get m d)) f) ∙ h
 ]
 
 -- the list that was put in is the cell's
-pub list_inserted : (m : Lists) (c : Place) (v : Vec Place) → list_at (insert m c v) c ≡ v.items
-list_inserted m c v = ap (λ (o : Option (Vec Place)). items_in o)
+pub list_inserted : (m : Lists) (c : Place) (v : Readers) → list_at (insert m c v) c ≡ cells_in v
+list_inserted m c v = ap (λ (o : Option Readers). items_in o)
     (get_inserted m c v c ∙ ap (λ b. cond b (Some v) (get m c)) (same_place_itself c))
 
 -- what a list had it still has where one was put into it, if there was memory
@@ -57,6 +57,15 @@ put_has true xs i x d h =
       | inr k ↦ list_any-append (same_place d) (take i xs) (x ∷ drop i xs)
           ∙ or_right (has same_place (take i xs) d) _ (or_right (same_place d x) _ k)
     ]
+
+-- what stands behind the first reader is one of all
+pub behind : (first : Place) (xs ys : List Place)
+    → ((d : Place) → has same_place xs d ≡ true → has same_place ys d ≡ true) → (d : Place)
+    → has same_place (first ∷ xs) d ≡ true → has same_place (first ∷ ys) d ≡ true
+behind first xs ys k d h = elim (or_cases (same_place d first) (has same_place xs d) h) [
+  | inl e ↦ or_left _ _ e
+  | inr m ↦ or_right (same_place d first) _ (k d m)
+]
 
 -- a formula that stands in the lists of what it reads stands there while they keep what they have
 pub listed_kept : (a b : Lists) (c : Place) (spans : List Extent) → AreKept a b → IsListed a c spans

@@ -12,7 +12,7 @@ use Rattle.range_index.specs.Owners.{hold, owners_of, Owners}
 use Rattle.depend_graph.specs.inner.Banks.{is_one, spans_at, wide}
 use Rattle.depend_graph.specs.inner.Lists.{list_at, AreInLists, IsInListsOf, Lists}
 use Rattle.depend_graph.specs.Network.{holds}
-use Rattle.depend_graph.specs.inner.Readers.{any_reads}
+use Rattle.depend_graph.specs.inner.Readers.{any_reads, IsReaderAmong}
 use Rattle.depend_graph.specs.inner.Slots.{had, node_in, AreRegistered, Slots, Stands}
 use Rattle.depend_graph.specs.declared.node.Node.{Node}
 use Rattle.depend_graph.specs.declared.slots.Slot.{Slot}
@@ -29,6 +29,27 @@ none_reads m c (f ∷ fs) none d h k = elim (or_cases (same_place d f) (has same
     | inr rest ↦ none_reads m c fs rest d later k
   ]
 ]
+
+-- a reader among some is the first of them or one of the others
+pub one_of : (m : Slots) (c f : Place) (fs : List Place) (d : Place) → IsReaderAmong m c (f ∷ fs) d
+    → IsReaderAmong m c (f ∷ []) d ⊎ IsReaderAmong m c fs d
+one_of m c f fs d h = elim (or_cases (same_place d f) (has same_place fs d) h.0) [
+  | inl e ↦ inl (or_left _ _ e, h.1)
+  | inr k ↦ inr (k, h.1)
+]
+
+-- and the other way round
+pub among_first : (m : Slots) (c f : Place) (fs : List Place) (d : Place) → IsReaderAmong m c (f ∷ []) d
+    → IsReaderAmong m c (f ∷ fs) d
+among_first m c f fs d h = elim (or_cases (same_place d f) false h.0) [
+  | inl e ↦ (or_left _ _ e, h.1)
+  | inr k ↦ absurd (false≢true k)
+]
+
+-- so are those behind the first
+pub among_more : (m : Slots) (c f : Place) (fs : List Place) (d : Place) → IsReaderAmong m c fs d
+    → IsReaderAmong m c (f ∷ fs) d
+among_more m c f fs d h = (or_right (same_place d f) _ h.0, h.1)
 
 -- a span that holds a cell is that cell or a wide one
 in_part : (cell : Place) (spans : List Extent) → hold spans cell ≡ true

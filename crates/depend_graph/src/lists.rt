@@ -1,18 +1,26 @@
 // For each cell the formulas that read it by itself, and not in a wider span.
-ghost use Rattle.std.specs.Prelude.{◌≡◌, ◌≤◌, length, true, IfOk, OnOk};
+ghost use Rattle.std.specs.Prelude.{◌≡◌, ◌≤◌, length, true, OnOk};
 ghost use Rattle.std.specs.FinMap as map;
 ghost use Rattle.cell_maps.specs.Sets.{has};
 ghost use Rattle.grid_address.specs.Place.{place_cmp, same_place, Place};
 ghost use Rattle.depend_graph.specs.inner.Banks.{is_one};
-ghost use Rattle.depend_graph.specs.inner.Lists.{list_at, AreKept, IsListed};
+ghost use Rattle.depend_graph.specs.inner.Lists.{cells_in, list_at, AreKept, IsListed};
 
 use cell_maps::CellMap;
 use grid_address::{Cell, Span};
 use lics_text::Memory;
 use std::alloc::Global;
 
-/// The formulas in row order, among others that once read the cell: what was put into a list stays there.
-pub type Lists = CellMap<Vec<Cell>>;
+/// The formulas that read a cell, among others that once did: what was put in stays there. The first that came takes no
+/// memory of its own, and the others stand in row order.
+#[derive(Drop)]
+pub struct Readers {
+    pub first: Cell,
+    pub more: Vec<Cell>,
+}
+
+/// The readers of each cell.
+pub type Lists = CellMap<Readers>;
 
 /// Whether a span is one cell.
 pub fn is_one(span: Span) -> bool
@@ -56,13 +64,17 @@ fn put(list: &mut Vec<Cell>, cell: Cell) -> Result<(), Memory>
     Ok(())
 }
 
-// A list of one cell.
-fn one(alloc: Global, cell: Cell) -> Result<Vec<Cell>, Memory>
-    ensures { IfOk result (λ l. has same_place l.items cell ≡ true) }
+// Puts a cell among readers, unless it is there.
+fn put_reader(readers: &mut Readers, cell: Cell) -> Result<(), Memory>
+    ensures kept { (d : Place) → has same_place (cells_in readers.old) d ≡ true →
+        has same_place (cells_in readers.new) d ≡ true }
+    ensures here { OnOk result (has same_place (cells_in readers.new) cell ≡ true) }
 {
-    let mut list = Vec::new(alloc);
-    list.push(cell)?;
-    Ok(list)
+    if readers.first == cell {
+        return Ok(());
+    }
+    put(&mut readers.more, cell)?;
+    Ok(())
 }
 
 // Puts a formula into the list of a cell.
@@ -71,10 +83,13 @@ fn add(lists: &mut Lists, alloc: Global, cell: Cell, formula: Cell) -> Result<()
     ensures here { OnOk result (has same_place (list_at lists.new cell) formula ≡ true) }
 {
     match lists.get_mut(cell) {
-        Some(list) => put(list, formula),
+        Some(readers) => put_reader(readers, formula),
         None => {
-            let list = one(alloc, formula)?;
-            lists.insert(cell, list)?;
+            let readers = Readers {
+                first: formula,
+                more: Vec::new(alloc),
+            };
+            lists.insert(cell, readers)?;
             Ok(())
         }
     }

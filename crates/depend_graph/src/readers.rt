@@ -4,13 +4,13 @@ ghost use Rattle.std.specs.FinMap as map;
 ghost use Rattle.cell_maps.specs.Sets.{has};
 ghost use Rattle.grid_address.specs.Place.{same_place, Place};
 ghost use Rattle.range_index.specs.Owners.{owners_of};
-ghost use Rattle.depend_graph.specs.inner.Lists.{list_at, AreInLists};
+ghost use Rattle.depend_graph.specs.inner.Lists.{cells_in, list_at, AreInLists};
 ghost use Rattle.depend_graph.specs.Network.{holds, reads};
 ghost use Rattle.depend_graph.specs.inner.Readers.{any_reads, network_of, IsReaderAmong};
 ghost use Rattle.depend_graph.specs.inner.Slots.{had, node_in, AreRegistered};
 
 use crate::banks::Banks;
-use crate::lists::Lists;
+use crate::lists::{Lists, Readers};
 use crate::slots::{Slot, node_of};
 use cell_maps::CellMap;
 use grid_address::Cell;
@@ -45,6 +45,21 @@ fn add_those(
     Ok(())
 }
 
+// Adds those of the readers that still read the cell.
+fn add_of(
+    slots: &CellMap<Slot>,
+    readers: &Readers,
+    cell: Cell,
+    found: &mut Vec<Cell>,
+) -> Result<(), Memory>
+    ensures { OnOk result ((d : Place) → (has same_place found.new.items d ≡ true)
+        ↔ ((has same_place found.old.items d ≡ true) ⊎ IsReaderAmong slots.now cell (cells_in readers.now) d)) }
+{
+    add_those(slots, &[readers.first], cell, found)?;
+    add_those(slots, readers.more.as_slice(), cell, found)?;
+    Ok(())
+}
+
 // Adds those that stand in the list of the cell.
 fn add_listed(
     slots: &CellMap<Slot>,
@@ -56,7 +71,7 @@ fn add_listed(
         ↔ ((has same_place found.old.items d ≡ true) ⊎ IsReaderAmong slots.now cell (list_at lists.now cell) d)) }
 {
     match lists.get(cell) {
-        Some(list) => add_those(slots, list.as_slice(), cell, found),
+        Some(readers) => add_of(slots, readers, cell, found),
         None => add_those(slots, &[], cell, found),
     }
 }
@@ -109,12 +124,19 @@ fn any_reads(slots: &CellMap<Slot>, formulas: &[Cell], cell: Cell) -> bool
     false
 }
 
+// Whether one of the readers still reads the cell.
+fn any_of(slots: &CellMap<Slot>, readers: &Readers, cell: Cell) -> bool
+    ensures { result ≡ any_reads slots.now cell (cells_in readers.now) }
+{
+    reads(slots, readers.first, cell) || any_reads(slots, readers.more.as_slice(), cell)
+}
+
 // Whether one of those that stand in the list of the cell reads it.
 fn any_listed(slots: &CellMap<Slot>, lists: &Lists, cell: Cell) -> bool
     ensures { result ≡ any_reads slots.now cell (list_at lists.now cell) }
 {
     match lists.get(cell) {
-        Some(list) => any_reads(slots, list.as_slice(), cell),
+        Some(readers) => any_of(slots, readers, cell),
         None => false,
     }
 }

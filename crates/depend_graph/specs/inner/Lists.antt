@@ -1,24 +1,28 @@
 -- For each cell the formulas that read it by itself.
-use Rattle.std.specs.Prelude.{◌≡◌, true, List, [], Option, None, Some}
+use Rattle.std.specs.Prelude.{◌≡◌, true, List, [], ◌∷◌, Option, None, Some}
 use Rattle.std.specs.FinMap.{get, FinMap}
-use Rattle.std.specs.Global.{Vec}
 use Rattle.std.specs.List.{filter}
 use Rattle.cell_maps.specs.Sets.{has}
 use Rattle.grid_address.specs.Place.{place_cmp, same_place, Extent, Place}
 use Rattle.range_index.specs.Owners.{hold}
 use Rattle.depend_graph.specs.inner.Banks.{is_one}
 use Rattle.depend_graph.specs.inner.Slots.{Slots}
+use Rattle.depend_graph.specs.declared.lists.Readers.{Readers}
 use Rattle.depend_graph.specs.declared.node.Node.{Node}
 use Rattle.depend_graph.specs.declared.slots.Slot.{Slot}
 
--- a list of formulas for each cell
+-- readers for each cell
 abbrev pub Lists : Type 0
-Lists = FinMap place_cmp (Vec Place)
+Lists = FinMap place_cmp Readers
 
--- the items of a list, where there is one
-abbrev pub items_in : Option (Vec Place) → List Place
+-- all readers of a cell
+abbrev pub cells_in : Readers → List Place
+cells_in r = r.first ∷ r.more.items
+
+-- all readers, where there are some
+abbrev pub items_in : Option Readers → List Place
 items_in None = []
-items_in (Some v) = v.items
+items_in (Some r) = cells_in r
 
 -- the list of a cell
 abbrev pub list_at : Lists → Place → List Place
