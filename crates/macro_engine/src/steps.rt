@@ -1,11 +1,14 @@
 // One step of a macro that runs.
-ghost use Rattle.std.specs.Prelude.{◌≡◌, false, true, IfOk, None, Some};
+ghost use Rattle.std.specs.Prelude.{◌≡◌, false, true, IfOk, IfSome, None, Some};
+ghost use Rattle.macro_engine.specs.Changes.{outlook_in};
 ghost use Rattle.macro_engine.specs.Keys as keys;
 ghost use Rattle.macro_engine.specs.RowSpans.{ChangesRows};
 ghost use Rattle.macro_engine.specs.Steps as spec;
 ghost use Rattle.macro_engine.specs.Steps.{HasStepped};
 ghost use Rattle.macro_engine.specs.inner.Outcomes.{left_running, rows_in};
 ghost use Rattle.macro_engine.specs.declared.steps.StepEnd.TheVariants as end;
+ghost use Rattle.macro_text.specs.Texts.{macro_text};
+ghost use Rattle.macro_text.specs.Units.{command_of};
 ghost use Rattle.macro_text.specs.declared.unit.Unit.TheVariants as units;
 ghost use Rattle.macro_words.specs.Moves as moving;
 ghost use Rattle.work_sheet.specs.Seen.{of_worksheet};
@@ -213,11 +216,13 @@ fn source<'a>(sheet: &'a Worksheet, scene: &'a Scene) -> Source<'a, Worksheet>
 fn command_stepped(
     running: &mut Running,
     at: &Spot,
-    kept: &mut KeptWords,
+    kept: &KeptWords,
     sheet: &mut Worksheet,
     scene: &Scene,
     tally: &mut Tally,
 ) -> Result<Outcome, Memory>
+    requires { let sight = (outlook_in scene.now (of_worksheet sheet.old)).sight in
+        macro_text sight at.now.cell ≡ Some kept.now }
     ensures step { let s = of_worksheet sheet.old in
         let step = spec.unit_step scene.entry.now running.old (units.Command at.now) s in
         IfOk result (λ x. HasStepped step x.end (left_running x.goes_on (Some running.new))
@@ -251,11 +256,13 @@ fn return_stepped(
 fn unit_stepped(
     running: &mut Running,
     unit: &Unit,
-    kept: &mut KeptWords,
+    kept: &KeptWords,
     sheet: &mut Worksheet,
     scene: &Scene,
     tally: &mut Tally,
 ) -> Result<Outcome, Memory>
+    requires { let sight = (outlook_in scene.now (of_worksheet sheet.old)).sight in
+        IfSome (command_of unit.now) (λ at. macro_text sight at.cell ≡ Some kept.now) }
     ensures step { let step = spec.unit_step scene.entry.now running.old unit.now (of_worksheet sheet.old) in
         IfOk result (λ x. HasStepped step x.end (left_running x.goes_on (Some running.new))
         sheet.old sheet.new tally.old.count tally.new.count) }

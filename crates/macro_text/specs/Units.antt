@@ -83,6 +83,16 @@ word_outcome w text (word.PlaceCall c) end p = now (carried end p)
 word_outcome w text word.End end p = now (down p)
 word_outcome w text word.Bad end p = now (unknown p)
 
+-- the place of the word of a command, or of a call
+abbrev pub command_of : Unit → Option Spot
+command_of (unit.Command at) = Some at
+command_of _ = None
+
+-- the same of what a word comes to
+abbrev pub command_in : WordOutcome → Option Spot
+command_in (Now u p) = command_of u
+command_in (Passed p) = None
+
 -- a cell without a text ends the routine
 abbrev pub text_outcome : Outlook → Option (List ℕ) → Position → WordOutcome
 text_outcome w None p = Now unit.Return p

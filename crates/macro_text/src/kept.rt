@@ -152,13 +152,21 @@ impl KeptWords {
         Ok((word, end))
     }
 
-    /// The arguments of the command at an offset of the text, if it is kept.
-    pub fn arguments_at(&self, offset: usize) -> Option<&ReadArguments>
-        ensures { IfSome result (λ a. a.now ≡ arguments_in self.now (unit_at self.now offset).0) }
+    /// The text.
+    pub fn text(&self) -> &[u8]
+        ensures { result.now ≡ self.now }
+    {
+        self.text.bytes()
+    }
+
+    /// The word at an offset of the text with its arguments, if it is kept.
+    pub fn kept_at(&self, offset: usize) -> Option<&KeptWord>
+        ensures { IfSome result (λ k. (k.now.word ≡ (unit_at self.now offset).0)
+            × (k.now.args ≡ arguments_in self.now (unit_at self.now offset).0)) }
     {
         for kept in &self.words {
             if kept.at == offset {
-                return Some(&kept.args);
+                return Some(kept);
             }
         }
         None

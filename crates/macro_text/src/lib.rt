@@ -13,7 +13,7 @@ mod unit;
 
 pub use arguments::ReadArguments;
 pub use expression::{count_of, expression_value, formula_in, number_of, read_value};
-pub use kept::KeptWords;
+pub use kept::{KeptWord, KeptWords};
 pub use listed::{arguments_of, call_arguments, front, rest_of};
 pub use pieces::{macro_text, part, text_in};
 pub use position::{Position, Spot};

@@ -1,8 +1,9 @@
 // The next unit of a macro.
-ghost use Rattle.std.specs.Prelude.{◌≡◌, IfOk};
+ghost use Rattle.std.specs.Prelude.{◌≡◌, IfOk, IfSome, Some};
 ghost use Rattle.formula_parts.specs.Scenes.{outlook_of};
 ghost use Rattle.formula_text.specs.Words.{named_span};
 ghost use Rattle.lics_text.specs.Bytes.{IsText};
+ghost use Rattle.macro_text.specs.Texts.{macro_text};
 ghost use Rattle.macro_text.specs.Units as spec;
 
 use crate::expression::{count_of, number_of};
@@ -184,8 +185,10 @@ fn outcome_at<K: Look>(
     kept: &mut KeptWords,
     position: &Position,
 ) -> Result<WordOutcome, Memory>
-    ensures { let outlook = outlook_of (K.sight look.now) scene.entry.now in
+    ensures outcome { let outlook = outlook_of (K.sight look.now) scene.entry.now in
         IfOk result (λ t. t ≡ spec.outcome_at outlook position.now) }
+    ensures kept { let sight = K.sight look.now in
+        IfOk result (λ t. IfSome (spec.command_in t) (λ at. macro_text sight at.cell ≡ Some kept.new)) }
 {
     let Some(text) = macro_text(look, position.spot.cell) else {
         return Ok(WordOutcome::Now(Unit::Return, *position));
@@ -207,8 +210,9 @@ const MOST_WORDS: u32 = 241;
 /// The next unit of a macro, by the text as it now stands, and where the macro goes on: behind a key, a command or a
 /// call, and at the beginning of the cell below. A repeated key is typed once; its number is read anew each time, and
 /// where it was typed as often as it is to be, the word behind it tells the unit. At a return and at a fault the
-/// place stays. Words that were kept of a text are used for that text alone. (Release 2 manual for the words; that the
-/// text is read anew for each unit is this project's choice.)
+/// place stays. Words that were kept of a text are used for that text alone, and behind a command or a call they are
+/// those of its text. (Release 2 manual for the words; that the text is read anew for each unit is this project's
+/// choice.)
 pub fn next_unit<K: Look>(
     alloc: Global,
     look: &K,
@@ -216,8 +220,10 @@ pub fn next_unit<K: Look>(
     kept: &mut KeptWords,
     position: &Position,
 ) -> Result<(Unit, Position), Memory>
-    ensures { let outlook = outlook_of (K.sight look.now) scene.entry.now in
+    ensures unit { let outlook = outlook_of (K.sight look.now) scene.entry.now in
         IfOk result (λ n. n ≡ spec.next_unit outlook position.now) }
+    ensures kept { let sight = K.sight look.now in
+        IfOk result (λ n. IfSome (spec.command_of n.0) (λ at. macro_text sight at.cell ≡ Some kept.new)) }
 {
     let mut place = *position;
     for turn in 0..MOST_WORDS {

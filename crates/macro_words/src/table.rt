@@ -1,8 +1,8 @@
 // The table of commands.
-ghost use Rattle.std.specs.Prelude.{◌≡◌, IfOk};
+ghost use Rattle.std.specs.Prelude.{◌≡◌, IfOk, Some};
 ghost use Rattle.macro_words.specs.Sources.{outlook_from};
-ghost use Rattle.lics_text.specs.Bytes.{IsText};
 ghost use Rattle.macro_text.specs.Kept.{arguments_in};
+ghost use Rattle.macro_text.specs.Texts.{macro_text};
 ghost use Rattle.macro_words.specs.Rows as spec;
 
 use crate::asking::{
@@ -21,7 +21,7 @@ use formula_parts::Look;
 use grid_address::Format;
 use key_words::{Command, MacroWord};
 use lics_text::{MAX_LEN, Memory};
-use macro_text::{KeptWords, ReadArguments, Spot, macro_text, named_span, part, place_of};
+use macro_text::{KeptWords, ReadArguments, Spot, named_span, part, place_of};
 
 // The fewest and the most arguments of a command.
 fn counts(command: Command) -> (usize, usize)
@@ -140,8 +140,7 @@ fn word_row<K: Look>(
     word: MacroWord,
     args: &ReadArguments,
 ) -> Result<Row, Memory>
-    requires text { IsText text.now }
-    requires args { args.now ≡ arguments_in text.now word }
+    requires { args.now ≡ arguments_in text.now word }
     ensures { let outlook = outlook_from K.Look from.now in
         IfOk result (λ r. r ≡ spec.word_row outlook from.now.global.0 running.now at.now text.now word) }
 {
@@ -162,27 +161,23 @@ fn word_row<K: Look>(
     }
 }
 
-/// What the word at a place does, as its text now stands: to the sheet and to the macro, or why it is a fault; a fault
-/// writes nothing. All arguments are read first: one that isn't of its kind, or a
-/// wrong number of them, comes before a cell without a text and before a call or loop inside 31 others. A place
-/// without a command or a call is a bad argument. A word that was kept of this very text isn't read again. (Release 2
-/// manual for the words; the order of causes and the nesting of 31 are this project's choice.)
+/// What the word at a place does, as its text now stands, whose words these are: to the sheet and to the macro, or why
+/// it is a fault; a fault writes nothing. All arguments are read first: one that isn't of its kind, or a wrong number
+/// of them, comes before a cell without a text and before a call or loop inside 31 others. A place without a command or
+/// a call is a bad argument. A word that was kept isn't read again, and where none is kept of the place, the answer is
+/// `Memory`. (Release 2 manual for the words; the order of causes and the nesting of 31 are this project's choice.)
 #[tactic(auto, unfolding(crate::specs::Rows::row))]
 pub fn row<K: Look>(
     from: &Source<'_, K>,
     running: &Running,
-    kept: &mut KeptWords,
+    kept: &KeptWords,
     at: &Spot,
 ) -> Result<Row, Memory>
+    requires { macro_text (K.sight from.now.look.now) at.now.cell ≡ Some kept.now }
     ensures { IfOk result (λ r. r ≡ spec.row (outlook_from K.Look from.now) from.now.global.0 running.now at.now) }
 {
-    let Some(text) = macro_text(from.look, at.cell) else {
-        return Ok(bad());
-    };
-    let bytes = text.bytes();
-    let (word, _) = kept.word_at(from.alloc, bytes, at.offset, at.cell)?;
-    match kept.arguments_at(at.offset) {
-        Some(args) => word_row(from, running, at, bytes, word, args),
+    match kept.kept_at(at.offset) {
+        Some(read) => word_row(from, running, at, kept.text(), read.word, &read.args),
         None => Err(Memory),
     }
 }
