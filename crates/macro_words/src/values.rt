@@ -18,12 +18,28 @@ use macro_text::{front, read_value, rest_of};
 use sheet_store::Writes;
 use std::alloc::Global;
 
+// The write of one content.
+fn one_write(alloc: Global, cell: Cell, content: Content) -> Result<Writes, Memory>
+    ensures { IfOk result (λ w. w ≡ written cell content ∷ []) }
+{
+    let mut writes = Writes::new(alloc);
+    writes.push(written(cell, content))?;
+    Ok(writes)
+}
+
+/// The write that puts a value into a cell: a text as a label with `'`, ERR and NA as formulas.
+pub fn value_write(alloc: Global, cell: Cell, value: &Value) -> Result<Writes, Memory>
+    ensures { IfOk result (λ w. w ≡ written cell (as_content value.now) ∷ []) }
+{
+    let content = content_of(alloc, &value.as_ref())?;
+    one_write(alloc, cell, content)
+}
+
 /// One content is written.
 pub fn puts_one(alloc: Global, cell: Cell, content: Content, after: Move) -> Result<Row, Memory>
     ensures { IfOk result (λ r. r ≡ rows.puts (written cell content ∷ []) after) }
 {
-    let mut writes = Writes::new(alloc);
-    writes.push(written(cell, content))?;
+    let writes = one_write(alloc, cell, content)?;
     Ok(Ok(Deed {
         change: Change::Write(writes),
         after,
@@ -34,8 +50,11 @@ pub fn puts_one(alloc: Global, cell: Cell, content: Content, after: Move) -> Res
 pub fn puts_value(alloc: Global, cell: Cell, value: &Value, after: Move) -> Result<Row, Memory>
     ensures { IfOk result (λ r. r ≡ rows.puts_value cell value.now after) }
 {
-    let content = content_of(alloc, &value.as_ref())?;
-    puts_one(alloc, cell, content, after)
+    let writes = value_write(alloc, cell, value)?;
+    Ok(Ok(Deed {
+        change: Change::Write(writes),
+        after,
+    }))
 }
 
 /// A text is put into a cell, as a label with `'`.

@@ -10,7 +10,7 @@ ghost use Rattle.at_functions.specs.Numbers.{count_of};
 
 use crate::rows::bad;
 use crate::shown::shown_cell;
-use crate::values::{ReadText, let_value, puts_one, puts_value};
+use crate::values::{ReadText, let_value, puts_one, value_write};
 use crate::{Change, Deed, Move, Row, Source, Sweep};
 use fixed_value::Fixed;
 use formula_parts::Look;
@@ -42,7 +42,11 @@ pub fn let_row<K: Look>(
         formula: given.formula(1, at.cell),
     };
     let value = let_value(from, &read)?;
-    puts_value(from.alloc, cell, &value, Move::Stay)
+    let writes = value_write(from.alloc, cell, &value)?;
+    Ok(Ok(Deed {
+        change: Change::Write(writes),
+        after: Move::Stay,
+    }))
 }
 
 // The whole number that a number tells, cut toward zero; none below 0.
@@ -109,7 +113,11 @@ pub fn put_row<K: Look>(
         formula: given.formula(3, at.cell),
     };
     let value = let_value(from, &read)?;
-    puts_value(from.alloc, cell, &value, Move::Stay)
+    let writes = value_write(from.alloc, cell, &value)?;
+    Ok(Ok(Deed {
+        change: Change::Write(writes),
+        after: Move::Stay,
+    }))
 }
 
 /// BLANK.
