@@ -129,6 +129,25 @@ impl KeptWords {
         Ok(())
     }
 
+    // Reads the word at an offset of the text, which stands in a cell, and keeps it with its arguments.
+    fn read_at(
+        &mut self,
+        alloc: Global,
+        text: &[u8],
+        offset: usize,
+        cell: Cell,
+    ) -> Result<(MacroWord, usize), Memory>
+        requires text { IsText text.now }
+        requires kept { self.old ≡ text.now }
+        ensures word { IfOk result (λ w. w ≡ unit_at text.now offset) }
+        ensures text { OnOk result (self.new ≡ text.now) }
+    {
+        let (word, end) = unit_at(text, offset);
+        let args = read_arguments(alloc, text, &word, cell)?;
+        self.keep(offset, &word, end, args)?;
+        Ok((word, end))
+    }
+
     /// The word at an offset of a text that stands in a cell, and the offset behind it, as `unit_at` of key_words tells
     /// them. It is kept, with its arguments.
     pub fn word_at(
@@ -143,13 +162,10 @@ impl KeptWords {
         ensures text { OnOk result (self.new ≡ text.now) }
     {
         self.follow(text);
-        if let Some(found) = self.find(offset) {
-            return Ok(found);
+        match self.find(offset) {
+            Some(found) => Ok(found),
+            None => self.read_at(alloc, text, offset, cell),
         }
-        let (word, end) = unit_at(text, offset);
-        let args = read_arguments(alloc, text, &word, cell)?;
-        self.keep(offset, &word, end, args)?;
-        Ok((word, end))
     }
 
     /// The text.
