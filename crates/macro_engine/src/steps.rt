@@ -221,8 +221,8 @@ fn command_stepped(
     scene: &Scene,
     tally: &mut Tally,
 ) -> Result<Outcome, Memory>
-    requires { let sight = (outlook_in scene.now (of_worksheet sheet.old)).sight in
-        macro_text sight at.now.cell ≡ Some kept.now }
+    requires { let s = of_worksheet sheet.old in
+        macro_text (outlook_in scene.now s).sight at.now.cell ≡ Some kept.now }
     ensures step { let s = of_worksheet sheet.old in
         let step = spec.unit_step scene.entry.now running.old (units.Command at.now) s in
         IfOk result (λ x. HasStepped step x.end (left_running x.goes_on (Some running.new))

@@ -132,10 +132,10 @@ impl KeptWords {
     // Reads the word at an offset of the text, which stands in a cell, and keeps it with its arguments.
     fn read_at(
         &mut self,
-        alloc: Global,
         text: &[u8],
         offset: usize,
         cell: Cell,
+        alloc: Global,
     ) -> Result<(MacroWord, usize), Memory>
         requires text { IsText text.now }
         requires kept { self.old ≡ text.now }
@@ -164,7 +164,7 @@ impl KeptWords {
         self.follow(text);
         match self.find(offset) {
             Some(found) => Ok(found),
-            None => self.read_at(alloc, text, offset, cell),
+            None => self.read_at(text, offset, cell, alloc),
         }
     }
 

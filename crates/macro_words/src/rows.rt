@@ -38,10 +38,10 @@ fn goes(cell: Cell) -> Row
 }
 
 /// BRANCH.
-pub fn branch_row<K: Look>(from: &Source<'_, K>, args: &TextList) -> Row
-    ensures { result ≡ spec.on_place (outlook_from K.Look from.now) (spec.arg args.now 0) spec.goes }
+pub fn branch_row<K: Look>(from: &Source<'_, K>, given: &ReadArguments) -> Row
+    ensures { result ≡ spec.on_place (outlook_from K.Look from.now) (spec.arg given.now 0) spec.goes }
 {
-    match place_of(from.look.names(), args.get(0)) {
+    match given.place(0, from.look.names()) {
         Some(cell) => goes(cell),
         None => bad(),
     }

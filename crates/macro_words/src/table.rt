@@ -71,7 +71,7 @@ fn command_row<K: Look>(
         IfOk result (λ r. r ≡ spec.command_row outlook from.now.global.0 running.now at.now command given.now) }
 {
     match command {
-        Command::Branch => Ok(branch_row(from, given.list())),
+        Command::Branch => Ok(branch_row(from, given)),
         Command::Dispatch => Ok(dispatch_row(from, given.list())),
         Command::Define => define_row(from, running, at, given.list()),
         Command::Return => return_row(from, running),

@@ -32,13 +32,12 @@ pub fn let_row<K: Look>(
         IfOk result (λ r. r ≡ spec.on_place outlook (spec.arg given.now 0)
         (λ c. spec.puts_value c (values.let_value outlook at.now.cell (spec.arg given.now 1)) move.Stay)) }
 {
-    let args = given.list();
-    let Some(cell) = place_of(from.look.names(), args.get(0)) else {
+    let Some(cell) = given.place(0, from.look.names()) else {
         return Ok(bad());
     };
     let read = ReadText {
         at: at.cell,
-        text: args.get(1),
+        text: given.list().get(1),
         formula: given.formula(1, at.cell),
     };
     let value = let_value(from, &read)?;
