@@ -484,13 +484,17 @@ is_taken c n = nat_le c.0 n && nat_le n c.1
 unfoldable pub counted_row : Outlook → ℕ → Running → Spot → Command → List (List ℕ) → Row
 counted_row w global r at c args = if is_taken (counts c) (length args) then command_row w global r at c args else bad
 
+-- a call in a text that stands at a place; another word is none
+abbrev pub call_word_row : Outlook → Running → Spot → List ℕ → MacroWord → Row
+call_word_row w r at text (word.Call name args) =
+    on_some (named_span w.sight.names (part text name)) (λ s. calls r at s.first)
+call_word_row w r at text (word.PlaceCall c) = on_place w (part text c) (calls r at)
+call_word_row w r at text _ = bad
+
 -- a word of a text that stands at a place
 abbrev pub word_row : Outlook → ℕ → Running → Spot → List ℕ → MacroWord → Row
 word_row w global r at text (word.Command c args) = counted_row w global r at c (arguments_of false text args)
-word_row w global r at text (word.Call name args) =
-    on_some (named_span w.sight.names (part text name)) (λ s. calls r at s.first)
-word_row w global r at text (word.PlaceCall c) = on_place w (part text c) (calls r at)
-word_row w global r at text _ = bad
+word_row w global r at text x = call_word_row w r at text x
 
 -- What the word at a place does, as its text now stands, where the sheet's format is this one. A place without a
 -- command or a call is a fault.

@@ -112,8 +112,9 @@ fn command_row<K: Look>(
     }
 }
 
-// A command, where it takes so many arguments.
-#[tactic(auto, unfolding(crate::specs::Rows::counted_row))]
+// A command, where it takes so many arguments. Those of most loops go a way of their own, which needs no room for what
+// the whole table takes.
+#[tactic(auto, unfolding(crate::specs::Rows::counted_row, crate::specs::Rows::command_row))]
 fn counted_row<K: Look>(
     from: &Source<'_, K>,
     running: &Running,
@@ -124,40 +125,42 @@ fn counted_row<K: Look>(
     ensures { let outlook = outlook_from K.Look from.now in
         IfOk result (λ r. r ≡ spec.counted_row outlook from.now.global.0 running.now at.now command args.now) }
 {
-    if is_taken(command, args.list().len()) {
-        command_row(from, running, at, command, args)
-    } else {
-        Ok(bad())
+    if !is_taken(command, args.list().len()) {
+        return Ok(bad());
+    }
+    match command {
+        Command::Branch => Ok(branch_row(from, args)),
+        Command::If => if_row(from, at, args),
+        Command::Let => let_row(from, at, args),
+        _ => command_row(from, running, at, command, args),
     }
 }
 
-// What a word of a text does that stands at a place, with these arguments.
-fn word_row<K: Look>(
+// What a call in a text does that stands at a place; another word is none.
+fn call_word_row<K: Look>(
     from: &Source<'_, K>,
     running: &Running,
     at: &Spot,
     text: &[u8],
     word: MacroWord,
-    args: &ReadArguments,
-) -> Result<Row, Memory>
-    requires { args.now ≡ arguments_in text.now word }
+) -> Row
     ensures { let outlook = outlook_from K.Look from.now in
-        IfOk result (λ r. r ≡ spec.word_row outlook from.now.global.0 running.now at.now text.now word) }
+        result ≡ spec.call_word_row outlook running.now at.now text.now word }
 {
     match word {
-        MacroWord::Command(command, _) => { counted_row(from, running, at, command, args) }
         MacroWord::Call(name, _) => {
             let name = part(text, name);
-            Ok(call_row(running, at, named_span(from.look.names(), name)))
+            call_row(running, at, named_span(from.look.names(), name))
         }
         MacroWord::PlaceCall(cut) => match place_of(from.look.names(), part(text, cut)) {
-            Some(cell) => Ok(calls(running, at, cell)),
-            None => Ok(bad()),
+            Some(cell) => calls(running, at, cell),
+            None => bad(),
         },
-        MacroWord::Key(_) => Ok(bad()),
-        MacroWord::Repeated(_, _) => Ok(bad()),
-        MacroWord::End => Ok(bad()),
-        MacroWord::Bad => Ok(bad()),
+        MacroWord::Command(_, _) => bad(),
+        MacroWord::Key(_) => bad(),
+        MacroWord::Repeated(_, _) => bad(),
+        MacroWord::End => bad(),
+        MacroWord::Bad => bad(),
     }
 }
 
@@ -176,8 +179,16 @@ pub fn row<K: Look>(
     requires { macro_text (K.sight from.now.look.now) at.now.cell ≡ Some kept.now }
     ensures { IfOk result (λ r. r ≡ spec.row (outlook_from K.Look from.now) from.now.global.0 running.now at.now) }
 {
-    match kept.kept_at(at.offset) {
-        Some(read) => word_row(from, running, at, kept.text(), read.word, &read.args),
-        None => Err(Memory),
+    let Some(read) = kept.kept_at(at.offset) else {
+        return Err(Memory);
+    };
+    match read.word {
+        MacroWord::Command(command, _) => { counted_row(from, running, at, command, &read.args) }
+        MacroWord::Call(_, _)
+        | MacroWord::PlaceCall(_)
+        | MacroWord::Key(_)
+        | MacroWord::Repeated(_, _)
+        | MacroWord::End
+        | MacroWord::Bad => { Ok(call_word_row(from, running, at, kept.text(), read.word)) }
     }
 }
