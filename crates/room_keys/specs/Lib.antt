@@ -1,3 +1,4 @@
+pub mod LightTurns
 pub mod menu
 pub mod pointing
 pub mod prompt

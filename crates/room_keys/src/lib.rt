@@ -2,8 +2,11 @@
 //! answers, READY and ERROR, and a line that is typed.
 #![tactic(auto)]
 
+mod light_turn;
 pub mod menu;
 pub mod pointing;
 pub mod prompt;
 pub mod ready;
 pub mod typing;
+
+pub use light_turn::LightTurn;

@@ -1,11 +1,13 @@
 // What a key comes to in MENU, and what is shown there.
-ghost use Rattle.std.specs.Prelude.{◌≡◌, map, slice_get};
+ghost use Rattle.std.specs.Prelude.{◌≡◌, IfSome, map, slice_get};
+ghost use Rattle.room_keys.specs.LightTurns.{whole_turn};
 ghost use Rattle.room_keys.specs.menu.Room.{highlight_after, lacks_item, menu_or_ready, names_below, opened, panel};
 ghost use Rattle.room_keys.specs.menu.Room.{press, turn_by_item, turn_by_choice};
 ghost use Rattle.menu_tree.specs.Tree.{item_name};
 
 mod lines;
 
+use crate::LightTurn;
 use crate::menu::lines::{items_line, listed};
 use item_ring::highlighted;
 use key_words::Key;
@@ -75,6 +77,43 @@ pub fn press(alloc: Global, key: Key, room: MenuRoom) -> Turn
         Key::Esc => Turn::Become(menu_or_ready(parent(room.menu))),
         _ => Turn::Become(Room::Menu(MenuRoom {
             highlight: highlighted(&key, items.len(), room.highlight),
+            ..room
+        })),
+    }
+}
+
+// What an item comes to, where it is a menu; where there is no such item, the key is passed over.
+fn light_by_choice(item: Option<Item>, room: MenuRoom) -> Option<LightTurn>
+    ensures { IfSome result (λ x. whole_turn x ≡ turn_by_choice item room) }
+{
+    match item {
+        Some(Item::Menu(menu)) => Some(LightTurn::Menu(MenuRoom { menu, highlight: 0 })),
+        Some(Item::Action(_)) => None,
+        None => Some(LightTurn::Menu(room)),
+    }
+}
+
+// A menu, or READY.
+fn light_to(menu: Option<Menu>) -> LightTurn
+    ensures { whole_turn result ≡ Turn.Become (menu_or_ready menu) }
+{
+    match menu {
+        Some(menu) => LightTurn::Menu(MenuRoom { menu, highlight: 0 }),
+        None => LightTurn::Ready,
+    }
+}
+
+/// What a key comes to in MENU, where that is no command; none where it is one.
+pub fn light_turn(key: &Key, room: MenuRoom) -> Option<LightTurn>
+    ensures { IfSome result (λ x. whole_turn x ≡ press key.now room) }
+{
+    let items = items(room.menu);
+    match key {
+        Key::Enter => light_by_choice(item_at(items, room.highlight), room),
+        Key::Byte(byte) => light_by_choice(choose(items, byte.get()), room),
+        Key::Esc => Some(light_to(parent(room.menu))),
+        _ => Some(LightTurn::Menu(MenuRoom {
+            highlight: highlighted(key, items.len(), room.highlight),
             ..room
         })),
     }

@@ -1,11 +1,14 @@
 // What a key comes to while nothing is typed.
-ghost use Rattle.std.specs.Prelude.{◌≡◌};
+ghost use Rattle.std.specs.Prelude.{◌≡◌, IfSome};
+ghost use Rattle.data_blocks.specs.declared.ranges.DeskRanges.{DeskRanges};
+ghost use Rattle.room_keys.specs.LightTurns.{whole_turn};
 ghost use Rattle.room_keys.specs.ready.Ready.{begun, begun_mode, carrying_out, editing, marking, moving, panel};
 ghost use Rattle.room_keys.specs.ready.Ready.{pointed_text, press, query_again, way_of};
-ghost use Rattle.work_sheet.specs.Seen.{of_worksheet};
+ghost use Rattle.work_sheet.specs.Seen.{of_worksheet, Sheet};
 
 mod failed;
 
+use crate::LightTurn;
 use crate::menu::opened;
 use cell_pointer::{Way, move_after_end, move_of};
 use data_blocks::{DeskRanges, LastQuery};
@@ -17,8 +20,8 @@ use key_words::Key;
 use lics_text::{Line, TextByte};
 use menu_tree::{Action, CommonAction, DataAction, Menu};
 use session_rooms::{
-    AnsweredCommand, Answers, Mode, Panel, Room, Turn, TypingMode, TypingRoom, begins_value,
-    fits_line, line_of_byte,
+    AnsweredCommand, Answers, MenuRoom, Mode, Panel, Room, Turn, TypingMode, TypingRoom,
+    begins_value, fits_line, line_of_byte,
 };
 use std::alloc::Global;
 use work_sheet::Worksheet;
@@ -161,6 +164,43 @@ pub fn press(key: Key, end: bool, sheet: &Worksheet, ranges: &DeskRanges) -> Tur
         Key::Alt(letter) => Turn::Start(letter),
         Key::Undo => Turn::Undo,
         _ => moving(way_of(end, &key)),
+    }
+}
+
+// The main menu, where a byte opens it.
+fn light_begun(byte: TextByte) -> Option<LightTurn>
+    ensures { IfSome result (λ x. whole_turn x ≡ Turn.Become (begun byte)) }
+{
+    if byte.get() == b'/' {
+        Some(LightTurn::Menu(MenuRoom {
+            menu: Menu::Main,
+            highlight: 0,
+        }))
+    } else {
+        None
+    }
+}
+
+// A key that moves the pointer, or is passed over.
+fn light_moving(way: Option<Way>) -> LightTurn
+    ensures { whole_turn result ≡ moving way }
+{
+    match way {
+        Some(way) => LightTurn::Move(way),
+        None => LightTurn::Ready,
+    }
+}
+
+/// What a key comes to in READY, where it opens the main menu, moves the pointer or is passed over, by whether END was
+/// pressed before it; none of the keys that begin more.
+pub fn light_turn(key: &Key, end: bool) -> Option<LightTurn>
+    ensures { (s : Sheet) (r : DeskRanges) → IfSome result (λ x. whole_turn x ≡ press key.now end s r) }
+{
+    match key {
+        Key::Byte(byte) => light_begun(*byte),
+        Key::End | Key::Edit | Key::Goto | Key::Query | Key::Table => None,
+        Key::Calc | Key::Alt(_) | Key::Undo => None,
+        _ => Some(light_moving(way_of(end, key))),
     }
 }
 
