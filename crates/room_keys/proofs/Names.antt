@@ -1,11 +1,11 @@
 -- Names one after another in a line that is cut.
-use Rattle.std.specs.Prelude.{ℕ, zero, suc, ◌≡◌, ◌+◌, ◌<◌, ◌≤◌, nat_eq, nat_lt, refl, List, [], ◌∷◌, ◌++◌, codes}
+use Rattle.std.specs.Prelude.{ℕ, zero, suc, ◌≡◌, ◌+◌, ◌<◌, ◌≤◌, nat_eq, nat_lt, refl, List, [], ◌∷◌, ◌++◌}
 use Rattle.std.specs.Prelude.{get_or, length, map, take}
 use Rattle.std.proofs.Common.{ap, sym, ◌∙◌, arith, false, inl, inr, length-append}
 use Rattle.std.proofs.lemmas.Bool.{cases_lt, false_from_ne_true, lt-ltb, ltb-true}
 use Rattle.std.proofs.lemmas.List.{append-nil, append_assoc, length-map, length-take-le, map_more, take_all, take_at}
 use Rattle.lics_text.specs.Texts.{line_with}
-use Rattle.room_keys.specs.menu.Ring.{marked, marked_from, set_off}
+use Rattle.room_keys.specs.menu.Ring.{marked, marked_from}
 
 -- what was cut, went on and is cut again
 pub cut_again : (n : ℕ) (xs ys : List ℕ) → take n (take n xs ++ ys) ≡ take n (xs ++ ys)
@@ -56,12 +56,6 @@ marked_more place h (m ∷ ns) n =
     ∙ sym (append_assoc (marked (nat_eq place h) m) (marked_from (place + 1) h ns)
     (marked (nat_eq (place + suc (length ns)) h) n))
 
--- one more name at the end, set off
-set_off_more : (ns : List (List ℕ)) (n : List ℕ) → set_off (ns ++ n ∷ []) ≡ set_off ns ++ (codes "  " ++ n)
-set_off_more [] n = ap (λ l. codes "  " ++ l) (append-nil n)
-set_off_more (m ∷ ns) n = ap (λ l. codes "  " ++ l)
-    (ap (λ l. m ++ l) (set_off_more ns n) ∙ sym (append_assoc m (set_off ns) (codes "  " ++ n)))
-
 module _ {X : Type 0} (name : X → List ℕ) where
   -- a line of the first items, and one more
   pub one_item : (n h i : ℕ) (xs : List X) (d : X) (line new : List ℕ) → i < length xs →
@@ -77,14 +71,3 @@ module _ {X : Type 0} (name : X → List ℕ) where
       (sym start)
       ∙ ap (λ l. take n l) (sym (marked_more 0 h (map name (take i xs)) (name (get_or xs i d))))
       ∙ ap (λ l. take n (marked_from 0 h l)) (sym (map_more name xs i d within))
-
-  -- a line of the first items behind a beginning, and one more
-  pub one_set_off : (n i : ℕ) (xs : List X) (d : X) (front line new : List ℕ) → i < length xs →
-      line ≡ take n (front ++ set_off (map name (take i xs)))
-      → new ≡ take n (line ++ (codes "  " ++ name (get_or xs i d)))
-      → new ≡ take n (front ++ set_off (map name (take (i + 1) xs)))
-  one_set_off n i xs d front line new within is put =
-      going_on n (front ++ set_off (map name (take i xs))) line (codes "  " ++ name (get_or xs i d)) new is put
-      ∙ ap (λ l. take n l) (append_assoc front (set_off (map name (take i xs))) (codes "  " ++ name (get_or xs i d)))
-      ∙ ap (λ l. take n (front ++ l)) (sym (set_off_more (map name (take i xs)) (name (get_or xs i d))))
-      ∙ ap (λ l. take n (front ++ set_off l)) (sym (map_more name xs i d within))

@@ -1,17 +1,18 @@
 // What a key comes to in MENU, and what is shown there.
-ghost use Rattle.std.specs.Prelude.{◌≡◌, IfSome, map, slice_get};
+ghost use Rattle.std.specs.Prelude.{◌≡◌, ◌≤◌, IfSome, length, slice_get};
 ghost use Rattle.room_keys.specs.LightTurns.{whole_turn};
-ghost use Rattle.room_keys.specs.menu.Room.{highlight_after, lacks_item, menu_or_ready, names_below, opened, panel};
+ghost use Rattle.room_keys.specs.menu.Room.{highlight_after, lacks_item, menu_or_ready, opened, panel};
 ghost use Rattle.room_keys.specs.menu.Room.{press, turn_by_item, turn_by_choice};
-ghost use Rattle.menu_tree.specs.Tree.{item_name};
 
 mod lines;
+mod texts;
 
 use crate::LightTurn;
-use crate::menu::lines::{items_line, listed};
+use crate::menu::lines::items_line;
+use crate::menu::texts::listed;
 use item_ring::highlighted;
 use key_words::Key;
-use lics_text::Line;
+use lics_text::{Line, MAX_LEN};
 pub use lines::put_item;
 use menu_tree::{Item, Menu, choose, items, parent};
 use session_rooms::{AnsweredCommand, Answers, MenuRoom, Mode, Panel, Room, Turn};
@@ -126,16 +127,6 @@ pub fn lacks_item(room: &MenuRoom, letter: u8) -> bool
     choose(items(room.menu), letter).is_none()
 }
 
-// The items of the next level; an action has none.
-fn items_below(item: Option<Item>) -> &'static [Item]
-    ensures { map item_name result.now ≡ names_below item }
-{
-    match item {
-        Some(Item::Menu(menu)) => items(menu),
-        Some(Item::Action(_)) | None => &[],
-    }
-}
-
 /// The items of the menu, the highlighted one between brackets and the others between spaces; what goes past 240 bytes
 /// is cut (Release 2 manual, second line of the control panel).
 pub fn shown_items(room: &MenuRoom) -> Line
@@ -146,10 +137,14 @@ pub fn shown_items(room: &MenuRoom) -> Line
 
 /// The items of the menu that the highlighted item opens, with two spaces between them; nothing where it opens none.
 /// What goes past 240 bytes is cut (Release 2 manual, third line of the control panel).
-pub fn shown_below(room: &MenuRoom) -> Line
-    ensures { result ≡ (panel room.now).below }
+pub fn text_below(room: &MenuRoom) -> &'static [u8]
+    ensures text { result.now ≡ (panel room.now).below }
+    ensures short { length result.now ≤ MAX_LEN }
 {
-    listed(items_below(item_at(items(room.menu), room.highlight)))
+    match item_at(items(room.menu), room.highlight) {
+        Some(Item::Menu(menu)) => listed(menu),
+        Some(Item::Action(_)) | None => b"",
+    }
 }
 
 /// What is shown in MENU: the items, of which the highlighted one is marked, and below them what it leads to.
@@ -158,6 +153,6 @@ pub fn panel(room: &MenuRoom) -> Panel
 {
     let mut panel = Panel::of(Mode::Menu);
     panel.menu = shown_items(room);
-    panel.below = shown_below(room);
+    panel.below.put_all(text_below(room));
     panel
 }

@@ -1,6 +1,6 @@
 // The lines of items that a menu shows.
-ghost use Rattle.std.specs.Prelude.{◌≡◌, ◌∷◌, ◌++◌, [], codes, map, nat_eq, take};
-ghost use Rattle.room_keys.specs.menu.Ring.{items_line, listed, marked, set_off};
+ghost use Rattle.std.specs.Prelude.{◌≡◌, ◌∷◌, ◌++◌, [], map, nat_eq, take};
+ghost use Rattle.room_keys.specs.menu.Ring.{items_line, marked};
 ghost use Rattle.menu_tree.specs.Tree.{item_name};
 
 use lics_text::{Line, MAX_LEN};
@@ -49,40 +49,4 @@ pub(crate) fn items_line(items: &[Item], highlight: usize) -> Line
         put_item(&mut line, item.name(), place == highlight);
     }
     line
-}
-
-// What stands twice before a name.
-const GAP: u8 = b' ';
-
-// Adds a name behind two spaces.
-fn put_set_off(line: &mut Line, name: &[u8])
-    ensures { line.new ≡ take MAX_LEN (line.old ++ (codes "  " ++ name.now)) }
-{
-    put_byte(line, GAP);
-    put_byte(line, GAP);
-    put_cut(line, name);
-}
-
-// The name of an item, and those of others with two spaces before each.
-fn listed_behind(first: Item, others: &[Item]) -> Line
-    ensures { result ≡ take MAX_LEN (item_name first ++ set_off (map item_name others.now)) }
-{
-    let mut line = Line::new();
-    put_cut(&mut line, first.name());
-    for place in 0..others.len() {
-        let item = others[place];
-        put_set_off(&mut line, item.name());
-    }
-    line
-}
-
-/// The names of items with two spaces between them; what goes past 240 bytes is cut.
-pub(crate) fn listed(items: &[Item]) -> Line
-    ensures { result ≡ take MAX_LEN (listed (map item_name items.now)) }
-{
-    if items.is_empty() {
-        Line::new()
-    } else {
-        listed_behind(items[0], &items[1..])
-    }
 }

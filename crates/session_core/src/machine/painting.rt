@@ -11,7 +11,7 @@ use super::Machine;
 use crate::glance::{Foot, Glance, Marks, Minute};
 use crate::pressing::{plain_menu, plain_mode, plain_view, room_panel};
 use crate::waiting::{shows_waiting, waiting_panel};
-use room_keys::menu::{shown_below, shown_items};
+use room_keys::menu::{shown_items, text_below};
 use screen_layout::{PanelView, line_at, wants_recalculation};
 use screen_show::{LineSet, Screen};
 use serial_date::Moment;
@@ -169,14 +169,13 @@ impl Machine {
         ensures { shown.new ≡ screen self.now.state }
     {
         let items = shown_items(room);
-        let below = shown_below(room);
         let view = PanelView {
             mode: Mode::Menu,
             prompt: b"",
             typed: b"",
             cursor: 0,
             menu: items.bytes(),
-            below: below.bytes(),
+            below: text_below(room),
             message: b"",
             end: false,
             running: false,
