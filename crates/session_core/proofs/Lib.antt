@@ -6,6 +6,7 @@ pub mod Breaking
 pub mod Failing
 pub mod Held
 pub mod Kept
+pub mod LightTurns
 pub mod OneCommand
 pub mod OneOutcome
 pub mod OneResult

@@ -30,7 +30,7 @@ use crate::entering::{Meant, meaning_of};
 use crate::event::Event;
 use crate::faults::fault_message;
 use crate::frozen::Frozen;
-use crate::pressing::is_line_typed;
+use crate::pressing::{is_line_typed, light_turn_of};
 use crate::refusal::Refusal;
 use crate::rows::{ROWS, insert_cells, insert_row};
 use crate::touched::{Taken, Touched};
@@ -560,7 +560,16 @@ impl Machine {
                 self.type_byte(byte);
                 Ok(UNTOUCHED)
             }
-            _ => self.take_turn(key, now, shelf),
+            _ => match light_turn_of(key, &self.room, self.end, &self.desk) {
+                Some(turn) => {
+                    let touched = self.take_lightly(&key, turn);
+                    Ok(Taken {
+                        touched,
+                        ..UNTOUCHED
+                    })
+                }
+                None => self.take_turn(key, now, shelf),
+            },
         }
     }
 

@@ -1,6 +1,7 @@
 // What a key comes to, and what is shown, by what the session is doing.
 ghost use Rattle.std.specs.Prelude.{◌≡◌, IfOk, IfSome, IsOk};
 ghost use Rattle.command_desk.specs.Desks.{of_desk};
+ghost use Rattle.room_keys.specs.LightTurns.{whole_turn};
 ghost use Rattle.room_keys.specs.menu.Room as menu;
 ghost use Rattle.screen_layout.specs.Views.{viewed};
 ghost use Rattle.session_core.specs.inner.Glances.{plain_mode};
@@ -12,7 +13,7 @@ use command_desk::Desk;
 use key_words::Key;
 use lics_text::{Memory, TextByte};
 use room_keys::typing::told_mode;
-use room_keys::{menu, pointing, prompt, ready, typing};
+use room_keys::{LightTurn, menu, pointing, prompt, ready, typing};
 use screen_layout::PanelView;
 use session_rooms::{MenuRoom, Mode, Panel, Room, Turn};
 
@@ -42,6 +43,29 @@ pub(crate) fn turn_of(key: Key, room: Room, end: bool, desk: &Desk) -> Result<Tu
     match key {
         Key::Break => Ok(Turn::Become(Room::Ready)),
         _ => pressed(room, key, end, desk),
+    }
+}
+
+// What a key comes to in READY and in a menu, where that begins no line and no command.
+fn light_pressed(room: &Room, key: Key, end: bool, desk: &Desk) -> Option<LightTurn>
+    ensures { IfSome result (λ x. whole_turn x ≡ pressed room.now key end (of_desk desk.now)) }
+{
+    // The desk is there for the clause.
+    let _sheet = &desk.sheet;
+    match room {
+        Room::Ready => ready::light_turn(&key, end),
+        Room::Menu(room) => menu::light_turn(&key, *room),
+        Room::Typing(_) | Room::Pointing(_) | Room::Asking(_) | Room::Failed(_) => None,
+    }
+}
+
+/// What a key comes to in READY and in a menu, where that begins no line and no command.
+pub(crate) fn light_turn_of(key: Key, room: &Room, end: bool, desk: &Desk) -> Option<LightTurn>
+    ensures { IfSome result (λ x. whole_turn x ≡ turn_of key room.now end (of_desk desk.now)) }
+{
+    match key {
+        Key::Break => None,
+        _ => light_pressed(room, key, end, desk),
     }
 }
 
