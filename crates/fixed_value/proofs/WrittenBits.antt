@@ -1,6 +1,6 @@
 -- Doubles that are written are read back.
 use Rattle.std.proofs.Common.{◌≡◌, ℕ, suc, ◌+◌, ◌-◌, ◌*◌, ◌/◌, ◌%◌, ◌^◌, ◌≤◌, ◌<◌, max, true, false, refl, ap, ◌∙◌}
-use Rattle.std.proofs.Common.{arith, inl, inr}
+use Rattle.std.proofs.Common.{arith, inl, inr, sym}
 use Rattle.std.proofs.Math.Nat.{pow-le-pow_right}
 use Rattle.std.specs.Prelude.{◌==◌, nat_le, nat_lt, ℤ, pos, negsuc, nat_abs}
 use Rattle.std.proofs.lemmas.Bool.{cases_Bool}
@@ -21,6 +21,17 @@ pub raised : (n k : ℕ) → n * 2 ^ k < 4503599627370496000000 → n * 2 ^ (k +
 raised n k h =
     let more : n * 2 ^ (k + 1) ≡ n * (2 * 2 ^ k) = ap (λ p. n * p) (two_more k) in
     omega (arith, more, h)
+
+-- a size below a power of two, raised as far as to 2 ^ 72
+pub raised_below : (n k s : ℕ) → n < 2 * 2 ^ k → k + s ≡ 71 → n * 2 ^ s < 9007199254740992000000
+raised_below n k s h e =
+    let more : ℕ = 2 * 2 ^ k - n in
+    let power : 2 ^ k * 2 ^ s ≡ 2361183241434822606848 = sym (pow-add 2 k s) ∙ ap (λ m. 2 ^ m) e in
+    let split : 2 * 2 ^ k ≡ n + more = omega (arith, h) in
+    let all : 2 * 2 ^ k * 2 ^ s ≡ (n + more) * 2 ^ s = ap (λ m. m * 2 ^ s) split in
+    let twice : 2 * 2 ^ k * 2 ^ s ≡ 2 * (2 ^ k * 2 ^ s) = omega arith in
+    let parts : (n + more) * 2 ^ s ≡ n * 2 ^ s + more * 2 ^ s = omega arith in
+    omega (arith, power, all, twice, parts)
 
 -- the unit of a double that isn't as far below
 pub unit_small : (k : ℕ) → k ≤ 73 → 2 ^ k ≤ 2 ^ 73

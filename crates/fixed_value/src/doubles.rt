@@ -75,6 +75,17 @@ pub fn from_double_bits(bits: u64) -> DoubleRead
     }
 }
 
+// By how many powers of two a size in millionths is raised to have 53 bits, or one less, by its highest bit alone.
+fn scale_below(size: u64) -> u32
+    requires least { 1 ≤ size }
+    requires most { size ≤ 999999999999999 }
+    ensures in_range { (23 ≤ result) × (result ≤ 72) }
+    ensures below { size * 2 ^ result < 9007199254740992 * 1000000 }
+{
+    let highest = size.ilog2();
+    if highest < 48 { 71 - highest } else { 23 }
+}
+
 // By how many powers of two a size in millionths is raised to have 53 bits.
 fn scale_of(size: u64) -> u32
     requires least { 1 ≤ size }
@@ -83,7 +94,7 @@ fn scale_of(size: u64) -> u32
     ensures least { 4503599627370496 * 1000000 ≤ size * 2 ^ result }
     ensures below { size * 2 ^ result < 9007199254740992 * 1000000 }
 {
-    let mut scale = 23;
+    let mut scale = scale_below(size);
     while scale < 72 && (u128::from(size) << scale) < 4_503_599_627_370_496_000_000 {
         scale += 1;
     }
