@@ -127,6 +127,15 @@ fn add_value(total: &mut Total, value: &ValueRef<'_>) -> bool
     }
 }
 
+// Adds a cell that is no number; false where it is ERR or NA, or where there is no room.
+#[inline(never)]
+fn add_other<K: Look>(total: &mut Total, cell: Cell, look: &K) -> bool
+    ensures { let value = (K.sight look.now).values cell in
+        result ≡ true → (l : List Item) → IsTotal total.old l → IsTotal total.new (l ++ in_range value) }
+{
+    add_value(total, &look.value(cell))
+}
+
 // Adds a cell, which mostly is a number; false where it is ERR or NA, or where there is no room.
 #[inline(always)]
 fn add_cell<K: Look>(total: &mut Total, cell: Cell, look: &K) -> bool
@@ -135,7 +144,7 @@ fn add_cell<K: Look>(total: &mut Total, cell: Cell, look: &K) -> bool
 {
     match look.number(cell) {
         Some(number) => add_item(total, Item::Is(number)),
-        None => add_value(total, &look.value(cell)),
+        None => add_other(total, cell, look),
     }
 }
 

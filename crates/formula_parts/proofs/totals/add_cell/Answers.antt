@@ -8,8 +8,3 @@ pub returns-in-Some : goal.returns-in-Some
 returns-in-Some g c = λ added l is.
     subst (λ (v : Value). IsTotal c.add_item.new.total (l ++ in_range v)) (sym c.in-Some.ensures.some)
     (c.add_item.ensures added l is)
-
-pub returns-in-None : goal.returns-in-None
-returns-in-None g c = λ added l is.
-    subst (λ (v : Value). IsTotal c.add_value.new.total (l ++ in_range v)) c.value.ensures
-    (c.add_value.ensures added l is)
