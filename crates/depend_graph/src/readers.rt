@@ -56,6 +56,9 @@ fn add_of(
         ↔ ((has same_place found.old.items d ≡ true) ⊎ IsReaderAmong slots.now cell (cells_in readers.now) d)) }
 {
     add_those(slots, &[readers.first], cell, found)?;
+    if readers.more.is_empty() {
+        return Ok(());
+    }
     add_those(slots, readers.more.as_slice(), cell, found)?;
     Ok(())
 }
