@@ -9,10 +9,11 @@ use Rattle.std.proofs.lemmas.Int.{ints}
 use Rattle.grid_address.specs.Place.{height_of, is_within, same_place, Extent, Place}
 use Rattle.formula_tree.specs.declared.value.Value.{Value}
 use Rattle.formula_tree.specs.declared.value.Value.TheVariants as value
-use Rattle.formula_parts.specs.inner.Kept.{IsColumn, IsRising, RisesTo}
+use Rattle.formula_parts.specs.declared.kept.Findings.{Findings}
+use Rattle.formula_parts.specs.inner.Kept.{AreFound, IsColumn, IsRising, RisesTo}
 use Rattle.formula_parts.specs.Lookups.{firsts, line_cell, passes}
 use Rattle.formula_parts.proofs.Blocks.{place}
-use Rattle.formula_parts.proofs.Keeping.{other}
+use Rattle.formula_parts.proofs.Keeping.{other, running_stays}
 use Rattle.formula_parts.proofs.Lines.{all_passed, goes_on, none_passed, stops_here, IsPassed}
 
 -- the numbers of the first rows are no greater than a number that is at least another, if there is one
@@ -138,3 +139,14 @@ pub column_stays : (values others : Place → Value) (kept : Option Extent) (c :
     → IfSome kept (IsColumn values) → IfSome kept (IsColumn others)
 column_stays values others None c outside same is = tt
 column_stays values others (Some s) c outside same is = (is.0, still_rises values others s c is.0 outside same is.1)
+
+-- what was found is so still where none of it hangs on the cell that changes
+pub all_stay : (values others : Place → Value) (f : Findings) (c : Place)
+    → IfSome f.last (λ r. is_within r.span c ≡ false) → IfSome f.before (λ r. is_within r.span c ≡ false)
+    → IfSome f.rising (λ s. is_within s c ≡ false) → ((d : Place) → same_place d c ≡ false → others d ≡ values d)
+    → AreFound values f → AreFound others f
+all_stay values others f c last before rising same found = record {
+  last = running_stays values others f.last c last same found.last;
+  before = running_stays values others f.before c before same found.before;
+  rising = column_stays values others f.rising c rising same found.rising;
+}

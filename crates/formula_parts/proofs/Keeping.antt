@@ -15,7 +15,8 @@ use Rattle.formula_parts.specs.inner.Totals.{so_far, IsTotal}
 use Rattle.formula_parts.proofs.Blocks.{place}
 use Rattle.formula_parts.proofs.Totalled.{items_append}
 
-row_same : (values others : Place → Value) (row col count : ℕ)
+-- the items of a row hang on the values of its cells alone
+pub row_same : (values others : Place → Value) (row col count : ℕ)
     → ((k : ℕ) → col ≤ k → k < col + count → others (place row k) ≡ values (place row k))
     → items_in others (row_cells row col count) ≡ items_in values (row_cells row col count)
 row_same values others row col zero same = refl
@@ -24,7 +25,8 @@ row_same values others row col (suc count) same =
     ∙ ap (λ (l : List Item). in_range (values (place row col)) ++ l)
     (row_same values others row (col + 1) count (λ k low high. same k (omega (arith, low)) (omega (arith, high))))
 
-block_same : (values others : Place → Value) (row col rows cols : ℕ)
+-- so do those of a block
+pub block_same : (values others : Place → Value) (row col rows cols : ℕ)
     → ((r k : ℕ) → row ≤ r → r < row + rows → col ≤ k → k < col + cols → others (place r k) ≡ values (place r k))
     → items_in others (block_cells row col rows cols) ≡ items_in values (block_cells row col rows cols)
 block_same values others row col zero cols same = refl

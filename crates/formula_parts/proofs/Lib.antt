@@ -2,6 +2,7 @@ pub mod Ascent
 pub mod Blocks
 pub mod Composing
 pub mod Gathered
+pub mod Growing
 pub mod Keeping
 pub mod Lines
 pub mod Places

@@ -202,7 +202,7 @@ found_by f t (Some n) values s total by =
     ap (list_value f) (unfiltered values (cells_of s)) ∙ by (items_in values (cells_of s)) total
 
 -- the items of two parts of the rows of a block
-parted : (values : Place → Value) (row col a b cols : ℕ)
+pub parted : (values : Place → Value) (row col a b cols : ℕ)
     → items_in values (block_cells row col (a + b) cols)
     ≡ items_in values (block_cells row col a cols) ++ items_in values (block_cells (row + a) col b cols)
 parted values row col zero b cols =

@@ -1,17 +1,19 @@
 // What evaluations keep for those behind them.
-ghost use Rattle.std.specs.Prelude.{◌≡◌, ◌≤◌, ◌<◌, IfSome, IsSome, Some, false, true};
+ghost use Rattle.std.specs.Prelude.{◌≡◌, ◌≤◌, ◌<◌, ◌∷◌, [], IfSome, IsSome, Some, false, true};
 ghost use Rattle.grid_address.specs.Place.{height_of, is_within, same_place, width_of, Place};
 ghost use Rattle.formula_tree.specs.declared.value.Value.{Value};
 ghost use Rattle.formula_tree.specs.declared.value.Value.TheVariants as value;
 ghost use Rattle.formula_parts.specs.inner.Kept.{AreFound, IsKept, IsRising, IsRunning};
-ghost use Rattle.formula_parts.specs.Lists.{items_in, list_value};
+ghost use Rattle.formula_parts.specs.declared.items.Item.TheVariants as item;
+ghost use Rattle.formula_parts.specs.Lists.{in_range, items_in, list_value};
 ghost use Rattle.formula_parts.specs.Lookups.{by_number};
 ghost use Rattle.formula_parts.specs.Outlook.{cells_of, filled, Sight};
 ghost use Rattle.formula_parts.specs.inner.Totals.{so_far, IsTotal};
 
+use crate::items::Item;
 use crate::look::Look;
 use crate::rising::{number_beside, rises};
-use crate::totals::{Total, add_rest, nothing, number_for};
+use crate::totals::{Total, add_item, add_rest, nothing, number_for};
 use fixed_value::Fixed;
 use formula_tree::Function;
 use grid_address::{Cell, Span};
@@ -66,6 +68,25 @@ impl Findings {
     {
         let last = without(self.last, cell);
         let before = without(self.before, cell);
+        let rising = beside(self.rising, cell);
+        let uneven = beside(self.uneven, cell);
+        Findings {
+            last,
+            before,
+            rising,
+            uneven,
+        }
+    }
+
+    // Those that go on where a cell that was blank takes a value that counts for a number: the total of a range in which
+    // it lies takes it too.
+    fn filled(self, cell: Cell, number: Fixed) -> Findings
+        ensures { (values others : Place → Value) → AreFound values self → values cell ≡ value.Blank →
+            in_range (others cell) ≡ item.Is number ∷ [] →
+            ((c : Place) → same_place c cell ≡ false → others c ≡ values c) → AreFound others result }
+    {
+        let last = grown(self.last, cell, number);
+        let before = grown(self.before, cell, number);
         let rising = beside(self.rising, cell);
         let uneven = beside(self.uneven, cell);
         Findings {
@@ -164,6 +185,33 @@ impl Kept {
             return;
         }
         self.findings = Some(findings.without(cell));
+    }
+
+    /// Whether it is known that nothing is kept.
+    #[inline(always)]
+    pub fn is_nothing(&self) -> bool
+        ensures { result ≡ true → (values : Place → Value) → IsKept self.now values }
+    {
+        match &self.findings {
+            Some(_) => false,
+            None => true,
+        }
+    }
+
+    /// A cell that was blank takes a value that counts for a number. The totals of the ranges in which it lies go on
+    /// with it.
+    pub fn fill(&mut self, cell: Cell, number: Fixed)
+        ensures { (values others : Place → Value) → IsKept self.old values → values cell ≡ value.Blank →
+            in_range (others cell) ≡ item.Is number ∷ [] →
+            ((c : Place) → same_place c cell ≡ false → others c ≡ values c) → IsKept self.new others }
+    {
+        let Some(findings) = &self.findings else {
+            return;
+        };
+        if !findings.hang_on(cell) {
+            return;
+        }
+        self.findings = Some(findings.filled(cell, number));
     }
 
     // What is kept, as findings.
@@ -295,6 +343,24 @@ fn without(running: Option<Running>, cell: Cell) -> Option<Running>
         return None;
     }
     Some(running)
+}
+
+// A total, with the number that a blank cell takes, where that lies in its range.
+fn grown(running: Option<Running>, cell: Cell, number: Fixed) -> Option<Running>
+    ensures { (values others : Place → Value) → IfSome running (IsRunning values) → values cell ≡ value.Blank →
+        in_range (others cell) ≡ item.Is number ∷ [] →
+        ((c : Place) → same_place c cell ≡ false → others c ≡ values c) → IfSome result (IsRunning others) }
+{
+    let running = running?;
+    let span = running.span;
+    if !span.contains(cell) {
+        return Some(running);
+    }
+    let mut total = running.total;
+    if !add_item(&mut total, Item::Is(number)) {
+        return None;
+    }
+    Some(Running { span, total })
 }
 
 // Whether a range is the first rows of another.

@@ -1,8 +1,7 @@
 use Rattle.std.proofs.Common.{sym, subst}
 use Rattle.std.specs.Prelude.{IfSome}
 use Rattle.formula_parts.specs.inner.Kept.{AreFound}
-use Rattle.formula_parts.proofs.Ascent.{column_stays}
-use Rattle.formula_parts.proofs.Keeping.{running_stays}
+use Rattle.formula_parts.proofs.Ascent.{all_stay}
 use Rattle.formula_parts.proofs.kept.Kept.let_go.Goals as goal
 
 pub returns-then-not-hang_on : goal.returns-then-not-hang_on
@@ -11,14 +10,9 @@ returns-then-not-hang_on c = λ values others is same.
     let found : AreFound values f = subst (λ o. IfSome o (AreFound values)) c.in-Some.is is in
     let apart = c.hang_on.ensures in
     let no = c.if-not-hang_on.true in
-    let still : AreFound others f = record {
-      last = running_stays values others f.last c.args.cell (apart.last no) same found.last;
-      before = running_stays values others f.before c.args.cell (apart.before no) same found.before;
-      rising = column_stays values others f.rising c.args.cell (apart.rising no) same found.rising;
-    } in
-    subst (λ o. IfSome o (AreFound others)) (sym c.in-Some.is) still)
+    subst (λ o. IfSome o (AreFound others)) (sym c.in-Some.is)
+    (all_stay values others f c.args.cell (apart.last no) (apart.before no) (apart.rising no) same found))
 
 pub returns : goal.returns
-returns c =
-    λ values others is same. c.without.ensures values others (subst (λ o. IfSome o (AreFound values)) c.in-Some.is is)
-    same
+returns c = λ values others is same.
+    c.without.ensures values others (subst (λ o. IfSome o (AreFound values)) c.in-Some.is is) same
