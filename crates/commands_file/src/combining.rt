@@ -193,6 +193,7 @@ fn combined_writes(
         (list_any (leaves_sheet kind pointer) (map.entries file.now.cells) ≡ true)) }
 {
     let mut writes = Writes::new(sheet.alloc());
+    writes.reserve(file.held_count())?;
     let mut entries = file.entries();
     while let Some(entry) = entries.next() {
         let leaves = push_write(&mut writes, kind, sheet, pointer, entry.0, entry.1)?;

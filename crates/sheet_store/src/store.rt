@@ -129,6 +129,11 @@ impl Store {
         band == span.last.row / BAND && col > u16::from(span.last.col)
     }
 
+    /// How many cells ever had a state, none of which is more than once among them. No clause tells it.
+    pub fn held_count(&self) -> usize {
+        self.cells.held().len()
+    }
+
     /// The state of a cell.
     pub fn get(&self, cell: Cell) -> Option<&CellState>
         ensures { option_copied result ≡ map.get self.now.cells cell }

@@ -46,6 +46,14 @@ impl Writes {
         }
     }
 
+    /// Makes room for so many more, as far as there is memory.
+    pub fn reserve(&mut self, more: usize) -> Result<(), Memory>
+        ensures { self.new ≡ self.old }
+    {
+        self.items.reserve(more)?;
+        Ok(())
+    }
+
     /// Adds one at the end. The list is unchanged where there is no room.
     pub fn push(&mut self, write: Write) -> Result<(), Memory>
         ensures ok { OnOk result (self.new ≡ self.old ++ write ∷ []) }
