@@ -51,6 +51,7 @@ pub(crate) fn index_of(table: &PlaceTable, cell: Cell) -> Option<usize>
 }
 
 // Holds an item at a cell that has no number yet.
+#[inline(always)]
 fn add<T: Drop>(
     table: &mut PlaceTable,
     held: &mut Vec<Held<T>>,
@@ -150,6 +151,7 @@ impl<T> CellMap<T> {
     }
 
     /// Gives a cell an item in place of the one that it has. Only a cell that was never put in can find no memory.
+    #[inline(always)]
     pub fn insert(&mut self, cell: Cell, item: T) -> Result<(), AllocError>
     where
         T: Drop,

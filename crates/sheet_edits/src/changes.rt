@@ -65,6 +65,7 @@ impl Changes {
     }
 
     /// Gives a cell a state, in place of an earlier one. Want of memory is the one fault.
+    #[inline(always)]
     pub fn set(&mut self, cell: Cell, state: CellState) -> Result<(), Memory>
         ensures { OnOk result (self.new ≡ map.insert self.old cell state) }
     {

@@ -151,6 +151,7 @@ impl Store {
     /// Puts a state whose value its content may have. One that is blank in the default format takes the cell out. Only
     /// a cell that isn't in the map can find no memory, so that an edit can put its new cells first, and takes them out
     /// by `clear` where a later one finds none.
+    #[inline(always)]
     pub fn put(&mut self, cell: Cell, state: CellState) -> Result<(), Memory>
         requires { IsSound state }
         ensures ok { OnOk result (self.new ≡ put_state self.old cell state) }
