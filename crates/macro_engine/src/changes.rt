@@ -94,6 +94,7 @@ fn erase(
 /// Changes the sheet as a word asks; in Automatic mode a recalculation follows a change of contents. Where cells that
 /// are to be written are protected, nothing is changed, and the first of them in row order is the answer. The rows,
 /// none before, become those that are changed, where they are told.
+#[inline(always)]
 pub fn carry_out(
     change: &Change,
     sheet: &mut Worksheet,

@@ -158,12 +158,24 @@ impl Engine {
         }
     }
 
-    // What a step came to; the macro stops behind it, unless it goes on. After `Memory` no macro runs.
+    // What a step came to; the macro stops behind it, unless it goes on. After `Memory` no macro runs. What most steps
+    // of a loop come to is made anew, in place of a copy of all that an end may carry.
+    #[inline(always)]
     fn stand_behind(&mut self, outcome: Result<Outcome, Memory>) -> Result<StepEnd, Memory>
         ensures end { result ≡ end_in outcome }
         ensures running { self.new ≡ left_by outcome self.old }
     {
         match outcome {
+            Ok(Outcome {
+                end: StepEnd::Works,
+                goes_on: true,
+                ..
+            }) => Ok(StepEnd::Works),
+            Ok(Outcome {
+                end: StepEnd::Moves,
+                goes_on: true,
+                ..
+            }) => Ok(StepEnd::Moves),
             Ok(Outcome { end, goes_on, .. }) => {
                 if !goes_on {
                     self.stop();

@@ -121,20 +121,35 @@ fn worked(change: &Change) -> StepEnd
     }
 }
 
-// What a word comes to that was carried out, and whether the macro goes on, which it moves.
-fn done(running: &mut Running, change: &Change, after: Move) -> Result<Outcome, Memory>
-    ensures { IfOk result (λ x. (x.end ≡ spec.ended change.now after)
+// What a word comes to that was carried out and told these rows, and whether the macro goes on, which it moves.
+#[inline(always)]
+fn done(
+    running: &mut Running,
+    change: &Change,
+    after: Move,
+    rows: Option<RowSpan>,
+) -> Result<Outcome, Memory>
+    ensures step { IfOk result (λ x. (x.end ≡ spec.ended change.now after)
         × (left_running x.goes_on (Some running.new) ≡ moving.moved after running.old)) }
+    ensures rows { IfOk result (λ x. x.rows ≡ rows) }
 {
     match after {
-        Move::Indicate(text) => Ok(going_on(StepEnd::Indicates(text))),
-        Move::Files(deed) => Ok(going_on(StepEnd::Files(deed))),
+        Move::Indicate(text) => Ok(Outcome {
+            end: StepEnd::Indicates(text),
+            goes_on: true,
+            rows,
+        }),
+        Move::Files(deed) => Ok(Outcome {
+            end: StepEnd::Files(deed),
+            goes_on: true,
+            rows,
+        }),
         _ => {
             let goes_on = moved(running, after)?;
             Ok(Outcome {
                 end: worked(change),
                 goes_on,
-                rows: None,
+                rows,
             })
         }
     }
@@ -163,10 +178,9 @@ pub fn deed_stepped(
             Ok(going_on(StepEnd::Refused(cell)))
         }
         None => {
-            let stepped = done(running, &change, after);
+            let stepped = done(running, &change, after, rows);
             drop(change);
-            let Outcome { end, goes_on, .. } = stepped?;
-            Ok(Outcome { end, goes_on, rows })
+            stepped
         }
     }
 }
