@@ -201,6 +201,21 @@ fn without_zeros_of_six(number: u64) -> (u64, u8)
     }
 }
 
+// A number of units without the zeros at its end, of which so many may go.
+#[inline(always)]
+fn without_end_zeros(number: u64, places: u8) -> (u64, u8)
+    ensures places { fixed_digits result.1 result.0 ≡ without_last_zeros (fixed_digits places number) }
+    ensures whole { result.0 / 10 ^ result.1 ≡ number / 10 ^ places }
+    ensures zero { (result.0 == 0) ≡ (number == 0) }
+    ensures size { result.1 ≤ places }
+{
+    if places == 6 {
+        without_zeros_of_six(number)
+    } else {
+        without_zeros_at_end(number, places)
+    }
+}
+
 /// Whether all digits are zero of a number that is written with so many places, at most 15.
 pub fn rounds_to_zero(value: Fixed, places: u8) -> bool
     requires { places ≤ 15 }
@@ -232,7 +247,7 @@ pub fn write_short(value: Fixed, places: u8) -> Digits
     ensures { result ≡ short value places }
 {
     let kept = places.min(6);
-    let (number, left) = without_zeros_at_end(scaled(value, kept), kept);
+    let (number, left) = without_end_zeros(scaled(value, kept), kept);
     write(is_minus(value), number, left, 0, 10)
 }
 
