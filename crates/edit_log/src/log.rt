@@ -53,7 +53,7 @@ fn add(changes: &mut Vec<Change>, cells: &mut CellSet, change: Change) -> Result
     cells.insert(change.cell())?;
     match changes.push(change) {
         Ok(()) => {
-            // `len` is called for its clause that no cell is in the set twice, here and below.
+            // `len` is called for its clause that no cell is in the set twice.
             let _ = cells.len();
             Ok(())
         }
