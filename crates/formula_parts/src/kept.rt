@@ -78,8 +78,8 @@ impl Findings {
         }
     }
 
-    // Those that go on where a cell that was blank takes a value that counts for a number: the total of a range in which
-    // it lies takes it too.
+    // Those that go on where a cell that was blank takes a value that counts for a number: the total of a range in
+    // which it lies takes it too.
     fn filled(self, cell: Cell, number: Fixed) -> Findings
         ensures { (values others : Place → Value) → AreFound values self → values cell ≡ value.Blank →
             in_range (others cell) ≡ item.Is number ∷ [] →

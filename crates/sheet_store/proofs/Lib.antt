@@ -1,5 +1,6 @@
 pub mod Behind
 pub mod Copies
+pub mod Found
 pub mod Grids
 pub mod Held
 pub mod HeldOrder

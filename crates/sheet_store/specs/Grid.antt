@@ -56,6 +56,15 @@ pub record IsHeld (p : Place) (s : CellState) : Type 0 where
 abbrev pub AreHeld : Cells → Type 0
 AreHeld m = (p : Place) (s : CellState) → map.get m p ≡ Some s → IsHeld p s
 
+-- the value of what is held of a cell, blank where nothing is
+abbrev pub held_value : Option CellState → Value
+held_value None = value.Blank
+held_value (Some s) = s.value
+
+-- the value that a cell has among the cells
+abbrev pub value_in : Cells → Place → Value
+value_in m c = held_value (map.get m c)
+
 -- the cell has the state; where the state isn't kept, the cell goes from the map
 abbrev pub put_state : Grid → Place → CellState → Grid
 put_state g c s = record g { cells = cond (is_kept s) (map.insert g.cells c s) (map.remove g.cells c) }

@@ -5,16 +5,22 @@ ghost use Rattle.std.specs.FinMap as map;
 ghost use Rattle.cell_maps.specs.Filled.{cell_in, filled, item_in, with_item};
 ghost use Rattle.grid_address.specs.Place.{is_within, place_cmp, InSheet, Place};
 ghost use Rattle.cell_maps.specs.Numbers.{band_of};
+ghost use Rattle.formula_parts.specs.declared.items.Item.TheVariants as item;
+ghost use Rattle.formula_parts.specs.Lists.{in_range};
+ghost use Rattle.formula_parts.specs.inner.Kept.{IsKept};
 ghost use Rattle.sheet_store.specs.inner.Copies.{inserted_all};
-ghost use Rattle.sheet_store.specs.Grid.{any_state, cells_within, clear_cell, formatted, formulas, formulas_within, further, holds_formula, is_hidden, last_among, last_used, picked, put_state, set_format_of, set_hidden_of, set_value_at, set_width_of, width_of, AreHeld, HasFormula, IsSound};
+ghost use Rattle.sheet_store.specs.Grid.{any_state, cells_within, clear_cell, formatted, formulas, formulas_within, further, holds_formula, is_hidden, last_among, last_used, picked, put_state, set_format_of, set_hidden_of, set_value_at, set_width_of, value_in, width_of, AreHeld, HasFormula, IsSound};
 ghost use Rattle.sheet_store.specs.inner.Contents.{HasContent, IsBlankAt};
+ghost use Rattle.sheet_store.specs.inner.Keeping.{AlwaysHolds, GoesOn, GoesOnWith};
 
 use crate::CellState;
 use crate::entries::BAND;
 use crate::own_width::{MOST_WIDTH, OwnWidth};
 use crate::scan::scan;
 use cell_maps::{CellMap, Held};
-use formula_tree::Value;
+use fixed_value::Fixed;
+use formula_parts::Kept;
+use formula_tree::{Value, ValueRef};
 use grid_address::{Cell, CellList, Format, Span};
 use lics_text::Memory;
 use std::alloc::Global;
@@ -28,13 +34,16 @@ pub struct Store {
     widths: [OwnWidth; 256],
     hidden: [bool; 256],
     alloc: Global,
+    // What evaluations found of the values as they stand.
+    kept: Kept,
 }
 
 impl Model for Store {
     ghost use Rattle.formula_tree.specs.contracts.formula.Formula as formula;
     ghost use Rattle.std.specs.Coded.{codes};
     ghost use Rattle.std.specs.FinMap as map;
-    ghost use Rattle.sheet_store.specs.Grid.{AreHeld, Grid};
+    ghost use Rattle.sheet_store.specs.Grid.{Grid};
+    ghost use Rattle.sheet_store.specs.inner.Keeping.{Keeps};
 
     ghost Value = { Grid };
 
@@ -42,7 +51,7 @@ impl Model for Store {
 
     ghost view = { λ a. record { cells = a.cells; widths = a.widths; hidden = a.hidden } };
 
-    ghost invariant = { λ a. AreHeld a.cells };
+    ghost invariant = { λ a. Keeps a.cells a.kept };
 }
 
 impl Store {
@@ -57,6 +66,7 @@ impl Store {
             widths: [OwnWidth::NONE; 256],
             hidden: [false; 256],
             alloc,
+            kept: Kept::new(),
         }
     }
 
@@ -145,6 +155,7 @@ impl Store {
     pub fn clear(&mut self, cell: Cell)
         ensures { self.new ≡ clear_cell self.old cell }
     {
+        self.kept.forget(cell);
         self.cells.remove(cell);
     }
 
@@ -160,11 +171,51 @@ impl Store {
     {
         cell.is_on_sheet();
         if !state.is_kept() {
+            self.kept.forget(cell);
             self.cells.remove(cell);
             return Ok(());
         }
-        self.cells.insert(cell, state)?;
+        tell(&mut self.kept, &self.cells, cell, &state);
+        let Ok(()) = self.cells.insert(cell, state) else {
+            let_all_go(&mut self.kept);
+            return Err(Memory);
+        };
         Ok(())
+    }
+
+    /// Hands out what evaluations found of the values, for those that go on. Until it is given back, nothing is kept.
+    #[inline(always)]
+    pub fn take_kept(&mut self) -> Kept
+        ensures kept { IsKept result (value_in self.old.cells) }
+        ensures same { self.new ≡ self.old }
+    {
+        if self.kept.is_nothing() {
+            return Kept::new();
+        }
+        self.hand_out()
+    }
+
+    // The same where something is kept, out of line.
+    #[inline(never)]
+    fn hand_out(&mut self) -> Kept
+        ensures kept { IsKept result (value_in self.old.cells) }
+        ensures same { self.new ≡ self.old }
+    {
+        let kept = self.kept;
+        self.kept = Kept::new();
+        kept
+    }
+
+    /// Takes back what evaluations found of the values as they stand.
+    #[inline(always)]
+    pub fn give_kept(&mut self, kept: Kept)
+        requires { IsKept kept (value_in self.old.cells) }
+        ensures { self.new ≡ self.old }
+    {
+        if kept.is_nothing() {
+            return;
+        }
+        self.kept = kept;
     }
 
     /// The used cells of the span, in row order.
@@ -239,6 +290,7 @@ impl Store {
             widths: self.widths,
             hidden: self.hidden,
             alloc: self.alloc,
+            kept: Kept::new(),
         })
     }
 
@@ -271,6 +323,7 @@ impl Store {
         requires { HasContent self.old cell }
         ensures { self.new ≡ set_format_of self.old cell format }
     {
+        self.kept.forget(cell);
         match self.cells.get_mut(cell) {
             Some(state) => state.set_format(format),
             None => {}
@@ -284,6 +337,7 @@ impl Store {
         requires some { value ≡ Value.Blank → ⊥ }
         ensures { self.new ≡ set_value_at self.old cell value }
     {
+        self.kept.forget(cell);
         match self.cells.get_mut(cell) {
             Some(state) => state.set_value(value),
             None => let_go(value),
@@ -303,6 +357,71 @@ fn are_marks(hidden: &[bool; 256])
     ensures { length hidden.now ≡ 256 }
 {
     let _first = hidden[0];
+}
+
+// Tells what is kept that a cell takes a state. Where nothing is kept, that is a test alone.
+#[inline(always)]
+fn tell(kept: &mut Kept, cells: &CellMap<CellState>, cell: Cell, state: &CellState)
+    ensures { GoesOn kept.old kept.new cells.now cell state.now.value }
+{
+    if kept.is_nothing() {
+        return;
+    }
+    tell_change(kept, cells, cell, state);
+}
+
+// The same where something is kept.
+#[inline(never)]
+fn tell_change(kept: &mut Kept, cells: &CellMap<CellState>, cell: Cell, state: &CellState)
+    ensures { GoesOn kept.old kept.new cells.now cell state.now.value }
+{
+    match counted(state) {
+        Some(number) => tell_number(kept, cells, cell, number),
+        None => kept.forget(cell),
+    }
+}
+
+// The same of a state that counts for a number.
+fn tell_number(kept: &mut Kept, cells: &CellMap<CellState>, cell: Cell, number: Fixed)
+    ensures { GoesOnWith kept.old kept.new cells.now cell number }
+{
+    if !is_blank_in(cells, cell) {
+        kept.forget(cell);
+        return;
+    }
+    kept.fill(cell, number);
+}
+
+// Keeps nothing any more.
+#[inline(never)]
+fn let_all_go(kept: &mut Kept)
+    ensures { AlwaysHolds kept.new }
+{
+    *kept = Kept::new();
+}
+
+// Whether a cell has the blank value.
+fn is_blank_in(cells: &CellMap<CellState>, cell: Cell) -> bool
+    ensures { result ≡ true → value_in cells.now cell ≡ Value.Blank }
+{
+    match cells.get(cell) {
+        Some(state) => match state.value() {
+            ValueRef::Blank => true,
+            ValueRef::Num(_) | ValueRef::Str(_) | ValueRef::Err | ValueRef::Na => false,
+        },
+        None => true,
+    }
+}
+
+// The number that a state counts for in a range, where it counts for one.
+fn counted(state: &CellState) -> Option<Fixed>
+    ensures { IfSome result (λ n. in_range state.now.value ≡ item.Is n ∷ []) }
+{
+    match state.value() {
+        ValueRef::Num(number) => Some(number),
+        ValueRef::Str(_) => Some(Fixed::ZERO),
+        ValueRef::Blank | ValueRef::Err | ValueRef::Na => None,
+    }
 }
 
 // Drops a value.

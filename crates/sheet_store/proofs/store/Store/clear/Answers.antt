@@ -1,6 +1,7 @@
 use Rattle.std.proofs.Common.{ap, ◌∙◌, sym, subst}
-use Rattle.sheet_store.specs.Grid.{clear_cell, AreHeld}
-use Rattle.sheet_store.proofs.Held.{removed_held}
+use Rattle.sheet_store.specs.Grid.{clear_cell, Cells}
+use Rattle.sheet_store.specs.inner.Keeping.{Keeps}
+use Rattle.sheet_store.proofs.Found.{cleared}
 use Rattle.sheet_store.proofs.store.Store.clear.Goals as goal
 
 pub returns : goal.returns
@@ -10,4 +11,5 @@ returns c =
 
 pub invariant_of-self : goal.invariant_of-self
 invariant_of-self c =
-    subst AreHeld (sym c.remove.ensures) (removed_held c.self.inside.cells c.args.cell c.self.invariant)
+    subst (λ (m : Cells). Keeps m c.forget.new.self) (sym c.remove.ensures)
+    (cleared c.self.inside.cells c.args.cell c.self.inside.kept c.forget.new.self c.self.invariant c.forget.ensures)

@@ -13,7 +13,7 @@ returns-in-Some-clause-blank c = λ blank f.
     let now : get c.args.self.now.cells c.args.cell ≡ Some s =
     ap (λ (g : Grid). get g.cells c.args.cell) (sym c.self.view_is) ∙ found in
     ap (λ o. formatted o f) now
-    ∙ blank_there s f (sym c.is_blank.ensures ∙ blank) (c.self.invariant c.args.cell s found).sound)
+    ∙ blank_there s f (sym c.is_blank.ensures ∙ blank) (c.self.invariant.held c.args.cell s found).sound)
 
 pub returns-in-Some-clause-filled : goal.returns-in-Some-clause-filled
 returns-in-Some-clause-filled c = λ filled.

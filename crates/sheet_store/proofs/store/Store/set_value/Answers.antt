@@ -3,10 +3,12 @@ use Rattle.std.proofs.Common.{ap, sym, ◌∙◌, subst}
 use Rattle.std.specs.FinMap.{get, insert}
 use Rattle.std.proofs.lemmas.Bool.{false≢true}
 use Rattle.std.proofs.lemmas.Option.{same_Some}
-use Rattle.sheet_store.specs.Grid.{is_formula, AreHeld, Grid, IsHeld}
+use Rattle.sheet_store.specs.Grid.{is_formula, value_in, Grid, IsHeld}
+use Rattle.sheet_store.specs.inner.Keeping.{Keeps}
 use Rattle.sheet_store.specs.State.{CellState}
 use Rattle.sheet_store.specs.declared.store.Store.TheInside.{Inside}
-use Rattle.sheet_store.proofs.Held.{inserted_held, valued_held}
+use Rattle.sheet_store.proofs.Found.{put_in}
+use Rattle.sheet_store.proofs.Held.{valued_held}
 use Rattle.sheet_store.proofs.store.Store.set_value.Goals as goal
 use Rattle.sheet_store.proofs.store.Store.set_value.Goals.{in-Some, in-None}
 
@@ -23,10 +25,11 @@ invariant_of-self c = elim c.match-get_mut.branch [
       let formula : is_formula s.content ≡ true =
       subst (λ (x : CellState). is_formula x.content ≡ true) known c.requires.formula.2 in
       let here : IsHeld c.args.cell written =
-      valued_held c.args.cell s c.args.value (c.self.invariant c.args.cell s found) formula c.requires.some in
-      subst (λ (i : Inside). AreHeld i.cells) (sym w.self-inside-is)
-      (subst (λ (x : CellState). AreHeld (insert old c.args.cell x)) (sym w.set_value.ensures)
-      (inserted_held old c.args.cell written here c.self.invariant))
+      valued_held c.args.cell s c.args.value (c.self.invariant.held c.args.cell s found) formula c.requires.some in
+      subst (λ (i : Inside). Keeps i.cells i.kept) (sym w.self-inside-is)
+      (subst (λ (x : CellState). Keeps (insert old c.args.cell x) c.forget.new.self) (sym w.set_value.ensures)
+      (put_in old c.args.cell c.self.inside.kept c.forget.new.self c.self.invariant written here
+      (λ others is takes same. c.forget.ensures (value_in old) others is same)))
   | in-None w ↦
       let none : None ≡ get c.args.self.now.cells c.args.cell =
       w.in-None.ensures.value ∙ ap (λ (g : Grid). get g.cells c.args.cell) c.self.view_is in
