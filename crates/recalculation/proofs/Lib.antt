@@ -10,6 +10,7 @@ pub mod Filled
 pub mod First
 pub mod Fresh
 pub mod Graphs
+pub mod Handed
 pub mod Held
 pub mod Items
 pub mod Members

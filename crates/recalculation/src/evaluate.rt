@@ -29,8 +29,10 @@ pub fn evaluate_at<E: Means>(
     ensures err { OnErr result (store.new ≡ store.old) }
     ensures count { OnOk result (E.count tally.new ≡ raised_by 1 (E.count tally.old)) }
 {
-    let mut kept = Kept::new();
-    evaluate_next(store, cell, context, tally, &mut kept)
+    let mut kept = store.take_kept();
+    evaluate_next(store, cell, context, tally, &mut kept)?;
+    store.give_kept(kept);
+    Ok(())
 }
 
 // The same behind other evaluations, with what they kept of the values as they stand.
@@ -66,6 +68,31 @@ fn evaluate_next<E: Means>(
     Ok(())
 }
 
+// Gives each of the cells, in turn, the meaning of its formula, with what evaluations before kept of the values.
+#[inline(always)]
+fn pass_along<E: Means>(
+    store: &mut Store,
+    cells: &[Cell],
+    context: &ContextRef<'_>,
+    tally: &mut E,
+    kept: &mut Kept,
+) -> Result<(), Memory>
+    requires formulas { (c : Place) → has same_place cells.now c ≡ true → is_formula_at store.old c ≡ true }
+    requires kept { IsKept kept.old (value_at store.old) }
+    ensures values { OnOk result (store.new ≡ pass E.meaning (seen_context context.now) cells.now store.old) }
+    ensures count { OnOk result (E.count tally.new ≡ raised_by (length cells.now) (E.count tally.old)) }
+    ensures sound { (dirty : Place → Bool) → IsSound E.meaning (seen_context context.now) store.old dirty
+        → IsSound E.meaning (seen_context context.now) store.new dirty }
+    ensures contents { SameContents store.old store.new }
+    ensures outside { SameOutside (has same_place cells.now) store.old store.new }
+    ensures kept { OnOk result (IsKept kept.new (value_at store.new)) }
+{
+    for cell in cells {
+        evaluate_next(store, *cell, context, tally, kept)?;
+    }
+    Ok(())
+}
+
 // Gives each of the cells, in turn, the meaning of its formula.
 pub fn pass_over<E: Means>(
     store: &mut Store,
@@ -81,10 +108,12 @@ pub fn pass_over<E: Means>(
     ensures contents { SameContents store.old store.new }
     ensures outside { SameOutside (has same_place cells.now) store.old store.new }
 {
-    let mut kept = Kept::new();
-    for cell in cells {
-        evaluate_next(store, *cell, context, tally, &mut kept)?;
+    if cells.len() == 0 {
+        return Ok(());
     }
+    let mut kept = store.take_kept();
+    pass_along(store, cells, context, tally, &mut kept)?;
+    store.give_kept(kept);
     Ok(())
 }
 

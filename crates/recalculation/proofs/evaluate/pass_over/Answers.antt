@@ -1,55 +1,83 @@
-use Rattle.std.specs.Prelude.{◌+◌, drop, Option, ◌∷◌, []}
-use Rattle.std.specs.Option.{is_some}
-use Rattle.std.proofs.Common.{sym, ◌∙◌, ap, refl, subst}
-use Rattle.sheet_store.specs.Grid.{Grid}
+use Rattle.std.specs.Prelude.{◌≡◌, true, length, List}
+use Rattle.std.proofs.Common.{refl, sym, ◌∙◌, ap, arith}
 use Rattle.cell_maps.specs.Sets.{has}
 use Rattle.grid_address.specs.Place.{same_place, Place}
-use Rattle.formula_tree.specs.Tree.{Tree}
-use Rattle.recalculation.proofs.Contents.{same_evaluated, same_itself, same_on}
-use Rattle.recalculation.proofs.Counts.{raised_more}
-use Rattle.recalculation.proofs.Outside.{outside_itself, outside_more}
-use Rattle.recalculation.proofs.Cut.{formulas_stay, pass_step, sound_all}
-use Rattle.recalculation.specs.Context.{seen_context, value_at, Context}
-use Rattle.recalculation.specs.Passes.{evaluated, pass, raised_by, IsSound, Meaning, SameContents}
-use Rattle.recalculation.specs.inner.Meanings.{IsMeaning}
+use Rattle.sheet_store.specs.Grid.{Grid}
+use Rattle.recalculation.proofs.Contents.{same_itself}
+use Rattle.recalculation.proofs.Handed.{between, given, none_there, taken}
+use Rattle.recalculation.proofs.Outside.{outside_itself}
+use Rattle.recalculation.specs.Context.{seen_context, Context}
+use Rattle.recalculation.specs.Passes.{pass, raised_by, IsSound, Meaning, SameContents, SameOutside}
 use Rattle.recalculation.specs.Reading.{is_formula_at}
 use Rattle.recalculation.proofs.evaluate.pass_over.Goals as goal
 
-pub loop-cell-init : goal.loop-cell-init
-loop-cell-init g c = record {
-  values = refl;
-  formulas = λ _. refl;
-  sound = λ d s. s;
-  contents = same_itself c.args.store.now;
-  outside = outside_itself (has same_place c.args.cells.now) c.args.store.now;
-  kept = c.new-kept.ensures (value_at c.args.store.now);
-  count = refl;
-}
+pub returns-then-cells-eq0-clause-values : goal.returns-then-cells-eq0-clause-values
+returns-then-cells-eq0-clause-values g c =
+    let none : length c.args.cells.now ≡ 0 = omega (arith, c.if-cells-eq0.true) in
+    ap (λ (ps : List Place). pass g.E.Means.meaning (seen_context c.args.context.now) ps c.args.store.now)
+    (none_there c.args.cells.now none)
 
-pub loop-cell-preserved : goal.loop-cell-preserved
-loop-cell-preserved g c =
-    let mean : Meaning = g.E.Means.meaning in
+pub returns-then-cells-eq0-clause-count : goal.returns-then-cells-eq0-clause-count
+returns-then-cells-eq0-clause-count g c =
+    let none : length c.args.cells.now ≡ 0 = omega (arith, c.if-cells-eq0.true) in
+    ap (λ n. raised_by n (g.E.Means.count c.args.tally.now)) (sym none)
+
+pub returns-then-cells-eq0-clause-contents : goal.returns-then-cells-eq0-clause-contents
+returns-then-cells-eq0-clause-contents g c = same_itself c.args.store.now
+
+pub returns-then-cells-eq0-clause-outside : goal.returns-then-cells-eq0-clause-outside
+returns-then-cells-eq0-clause-outside g c = outside_itself (has same_place c.args.cells.now) c.args.store.now
+
+pub pass_along-requires-clause-formulas : goal.pass_along-requires-clause-formulas
+pass_along-requires-clause-formulas g c = λ x m.
+    ap (λ (h : Grid). is_formula_at h x) c.take_kept-kept.ensures.same ∙ c.requires x m
+
+pub pass_along-requires-clause-kept : goal.pass_along-requires-clause-kept
+pass_along-requires-clause-kept g c =
+    taken c.take_kept-kept.result c.args.store.now c.take_kept-kept.new.self c.take_kept-kept.ensures.same
+    c.take_kept-kept.ensures.kept
+
+pub give_kept-requires : goal.give_kept-requires
+give_kept-requires g c = given c.pass_along.new.kept c.pass_along.new.store c.in_ok-pass_along.ensures.kept
+
+pub returns-clause-values : goal.returns-clause-values
+returns-clause-values g c =
+    c.give_kept.ensures ∙ c.in_ok-pass_along.ensures.values
+    ∙ ap (pass g.E.Means.meaning (seen_context c.args.context.now) c.args.cells.now) c.take_kept-kept.ensures.same
+
+pub returns-clause-sound : goal.returns-clause-sound
+returns-clause-sound g c = λ dirty.
+    (let mean : Meaning = g.E.Means.meaning in
     let ctx : Context = seen_context c.args.context.now in
-    let meaning : IsMeaning mean = record { reads = g.met.E.Means.reads_alone } in
-    record {
-      values =
-          ap (pass mean ctx (drop (c.loop-cell.cell-index + 1) c.args.cells.now)) c.in_ok-evaluate_next.ensures.value
-          ∙ ap (λ x. pass mean ctx (drop (c.loop-cell.cell-index + 1) c.args.cells.now)
-          (evaluated mean ctx c.loop-cell.store x)) c.cell-item.is
-          ∙ sym (pass_step mean ctx c.args.cells.now c.loop-cell.cell-index c.cell-item.result c.loop-cell.store
-          c.loop-cell-test.true)
-          ∙ c.loop-cell.invariant.values;
-      formulas = λ x. ap (λ (h : Grid). is_formula_at h x) c.in_ok-evaluate_next.ensures.value
-          ∙ ap (λ (k : Place → Option Tree). is_some (k x)) (formulas_stay mean ctx c.loop-cell.store _)
-          ∙ c.loop-cell.invariant.formulas x;
-      sound = λ d s. subst (λ (h : Grid). IsSound mean ctx h d) (sym c.in_ok-evaluate_next.ensures.value)
-          (sound_all mean ctx d meaning c.loop-cell.store (c.loop-cell.invariant.sound d s) (c.cell-item.result ∷ []));
-      contents = same_on _ _ _ c.loop-cell.invariant.contents (subst (SameContents c.loop-cell.store)
-          (sym c.in_ok-evaluate_next.ensures.value) (same_evaluated mean ctx c.loop-cell.store c.cell-item.result));
-      outside = outside_more mean ctx c.args.cells.now c.loop-cell.cell-index c.cell-item.result
-          c.cell-item.is c.loop-cell-test.true c.args.store.now c.loop-cell.store c.evaluate_next.new.store
-          c.in_ok-evaluate_next.ensures.value c.loop-cell.invariant.outside;
-      kept = c.in_ok-evaluate_next.ensures.kept;
-      count = c.in_ok-evaluate_next.ensures.count ∙ ap (raised_by 1) c.loop-cell.invariant.count
-          ∙ raised_more c.loop-cell.cell-index 1 (g.E.Means.count c.args.tally.now);
-    }
+    between (λ x y. IsSound mean ctx x dirty → IsSound mean ctx y dirty) c.args.store.now c.take_kept-kept.new.self
+    c.pass_along.new.store c.give_kept.new.self c.take_kept-kept.ensures.same c.give_kept.ensures
+    (c.pass_along.ensures.sound dirty))
+
+pub returns-clause-contents : goal.returns-clause-contents
+returns-clause-contents g c =
+    between SameContents c.args.store.now c.take_kept-kept.new.self c.pass_along.new.store c.give_kept.new.self
+    c.take_kept-kept.ensures.same c.give_kept.ensures c.pass_along.ensures.contents
+
+pub returns-clause-outside : goal.returns-clause-outside
+returns-clause-outside g c =
+    between (SameOutside (has same_place c.args.cells.now)) c.args.store.now c.take_kept-kept.new.self
+    c.pass_along.new.store c.give_kept.new.self c.take_kept-kept.ensures.same c.give_kept.ensures
+    c.pass_along.ensures.outside
+
+pub returns-in_err-pass_along-clause-sound : goal.returns-in_err-pass_along-clause-sound
+returns-in_err-pass_along-clause-sound g c = λ dirty.
+    (let mean : Meaning = g.E.Means.meaning in
+    let ctx : Context = seen_context c.args.context.now in
+    between (λ x y. IsSound mean ctx x dirty → IsSound mean ctx y dirty) c.args.store.now c.take_kept-kept.new.self
+    c.pass_along.new.store c.pass_along.new.store c.take_kept-kept.ensures.same refl
+    (c.pass_along.ensures.sound dirty))
+
+pub returns-in_err-pass_along-clause-contents : goal.returns-in_err-pass_along-clause-contents
+returns-in_err-pass_along-clause-contents g c =
+    between SameContents c.args.store.now c.take_kept-kept.new.self c.pass_along.new.store c.pass_along.new.store
+    c.take_kept-kept.ensures.same refl c.pass_along.ensures.contents
+
+pub returns-in_err-pass_along-clause-outside : goal.returns-in_err-pass_along-clause-outside
+returns-in_err-pass_along-clause-outside g c =
+    between (SameOutside (has same_place c.args.cells.now)) c.args.store.now c.take_kept-kept.new.self
+    c.pass_along.new.store c.pass_along.new.store c.take_kept-kept.ensures.same refl c.pass_along.ensures.outside

@@ -5,7 +5,7 @@ use Rattle.formula_parts.specs.inner.Kept.{IsKept}
 use Rattle.recalculation.specs.Context.{seen_context, value_at}
 use Rattle.recalculation.specs.Passes.{pass, raised_by, IsSound, SameContents, SameOutside}
 use Rattle.recalculation.specs.Reading.{is_formula_at}
-use Rattle.recalculation.proofs.evaluate.pass_over.Given as goal
+use Rattle.recalculation.proofs.evaluate.pass_along.Given as goal
 
 abbrev pub invariant-loop-cell : goal.invariant-loop-cell
 invariant-loop-cell g l =
