@@ -6,7 +6,7 @@ ghost use Rattle.range_index.specs.Owners.{spans_in};
 ghost use Rattle.depend_graph.specs.inner.Banks.{spans_at, wide, AreOthers, AreOthersKept};
 
 use crate::lists::is_one;
-use grid_address::{Cell, Span, SpanList};
+use grid_address::{Cell, Span};
 use lics_text::Memory;
 use range_index::RangeIndex;
 use std::alloc::Global;
@@ -30,12 +30,12 @@ fn add_wide(index: &mut RangeIndex, owner: Cell, span: Span) -> Result<(), Memor
 }
 
 // Gives an owner the wide ones of these spans. The other owners keep theirs, also where there is no memory.
-fn fill(index: &mut RangeIndex, owner: Cell, spans: &SpanList) -> Result<(), Memory>
+fn fill(index: &mut RangeIndex, owner: Cell, spans: &[Span]) -> Result<(), Memory>
     ensures is { OnOk result (spans_in (get index.new owner) ≡ wide spans.now) }
     ensures others { AreOthers index.old index.new owner }
 {
     index.remove(owner);
-    for span in spans.as_slice() {
+    for span in spans {
         add_wide(index, owner, *span)?;
     }
     Ok(())
@@ -61,7 +61,7 @@ impl Banks {
     }
 
     /// Gives a cell the wide ones of these spans in one of the two. All others are kept, also where there is no memory.
-    pub fn fill(&mut self, is_odd: bool, cell: Cell, spans: &SpanList) -> Result<(), Memory>
+    pub fn fill(&mut self, is_odd: bool, cell: Cell, spans: &[Span]) -> Result<(), Memory>
         ensures is { OnOk result (spans_at self.new.even self.new.odd is_odd cell ≡ wide spans.now) }
         ensures others { AreOthersKept self.old.even self.old.odd self.new.even self.new.odd is_odd cell }
     {

@@ -68,6 +68,14 @@ impl Graph {
         }
     }
 
+    /// Makes room for so many formulas more, as far as there is memory.
+    pub fn reserve(&mut self, more: usize) -> Result<(), Memory>
+        ensures { self.new ≡ self.old }
+    {
+        self.slots.reserve(more)?;
+        Ok(())
+    }
+
     /// The formula at a cell.
     pub fn get(&self, cell: Cell) -> Option<&Node>
         ensures { option_copied result ≡ map.get self.now.formulas cell }
@@ -102,7 +110,7 @@ impl Graph {
         drop_part(&mut self.slots, cell, Part::Offer);
         add_all(&mut self.lists, self.alloc, node.reads.as_slice(), cell)?;
         let is_odd = !side(&self.slots, cell);
-        self.banks.fill(is_odd, cell, &node.reads)?;
+        self.banks.fill(is_odd, cell, node.reads.as_slice())?;
         put_offer(&mut self.slots, cell, node)?;
         Ok(())
     }
@@ -157,7 +165,7 @@ impl Graph {
         }
         self.spread = LastSpreads::none();
         add_all(&mut self.lists, self.alloc, node.reads.as_slice(), cell)?;
-        self.banks.fill(false, cell, &node.reads)?;
+        self.banks.fill(false, cell, node.reads.as_slice())?;
         put_formula(&mut self.slots, cell, node)?;
         Ok(())
     }

@@ -14,5 +14,5 @@ mod slots;
 mod spread;
 
 pub use graph::Graph;
-pub use node::Node;
+pub use node::{Node, Reads};
 pub use sets::{cut_back, insert, insert_all};

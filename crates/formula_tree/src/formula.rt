@@ -1,5 +1,5 @@
 // Trees with their invariant.
-ghost use Rattle.std.specs.Prelude.{◌≡◌, true, IfOk};
+ghost use Rattle.std.specs.Prelude.{◌≡◌, true, IfOk, OnOk};
 ghost use Rattle.formula_tree.specs.Formulas.{formula_of, Gives};
 ghost use Rattle.formula_tree.specs.Ranges.{is_ranged};
 ghost use Rattle.formula_tree.specs.Redirected.{redirected};
@@ -12,7 +12,7 @@ use crate::reads::{collect, is_volatile};
 use crate::redirect::{keeps_references, redirected_copy};
 use crate::walk::has_shape;
 use crate::{Expr, Redirect};
-use grid_address::{Cell, SpanList};
+use grid_address::{Cell, Span};
 use lics_text::Memory;
 use std::alloc::Global;
 use std::marker::Model;
@@ -115,13 +115,13 @@ impl Formula {
         })
     }
 
-    /// The spans that the formula reads where it stands in the cell, from left to right.
-    pub fn reads(&self, at: Cell) -> Result<SpanList, Memory>
-        ensures { IfOk result (λ l. l ≡ spans_of self.now at) }
+    /// Puts the spans that the formula reads where it stands in the cell into a list in place of what was there, from
+    /// left to right.
+    pub fn put_reads(&self, at: Cell, into: &mut Vec<Span>) -> Result<(), Memory>
+        ensures { OnOk result (into.new.items ≡ spans_of self.now at) }
     {
-        let mut spans = SpanList::new(self.alloc);
-        collect(&self.expr, at, &mut spans)?;
-        Ok(spans)
+        into.clear();
+        collect(&self.expr, at, into)
     }
 
     /// Whether a function whose value changes by itself is called: NOW, CELL, CELLPOINTER or @@.

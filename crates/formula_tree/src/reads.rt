@@ -6,13 +6,13 @@ ghost use Rattle.formula_tree.specs.View.{tree_of};
 
 use crate::Expr;
 use crate::table::is_volatile_function;
-use grid_address::{Cell, Span, SpanList};
+use grid_address::{Cell, Span};
 use lics_text::Memory;
 
 /// Adds the spans that a tree reads at a cell, from left to right.
 #[cycle(collect)]
-pub fn collect(expr: &Expr, at: Cell, into: &mut SpanList) -> Result<(), Memory>
-    ensures { OnOk result (into.new ≡ into.old ++ spans_of (tree_of expr.now) at) }
+pub fn collect(expr: &Expr, at: Cell, into: &mut Vec<Span>) -> Result<(), Memory>
+    ensures { OnOk result (into.new.items ≡ into.old.items ++ spans_of (tree_of expr.now) at) }
 {
     match expr {
         Expr::Num(_) | Expr::Str(_) => Ok(()),
@@ -36,8 +36,8 @@ pub fn collect(expr: &Expr, at: Cell, into: &mut SpanList) -> Result<(), Memory>
 
 // Adds the spans that the arguments of a call read, the first argument's first.
 #[cycle(collect)]
-fn collect_all(args: &[Expr], at: Cell, into: &mut SpanList) -> Result<(), Memory>
-    ensures { OnOk result (into.new ≡ into.old ++ flat_map (λ e. spans_of (tree_of e) at) args.now) }
+fn collect_all(args: &[Expr], at: Cell, into: &mut Vec<Span>) -> Result<(), Memory>
+    ensures { OnOk result (into.new.items ≡ into.old.items ++ flat_map (λ e. spans_of (tree_of e) at) args.now) }
 {
     for arg in args {
         collect(arg, at, into)?;

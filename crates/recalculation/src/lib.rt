@@ -20,4 +20,4 @@ pub use laws::{any_order_serves, edit_keeps_sound, recalculation_is_cut};
 pub use recalculation::{Circ, recalc};
 pub use span::recalc_span;
 pub use view::View;
-pub use whole::{all_dirty, graph_of};
+pub use whole::{all_dirty, formula_node, graph_of};

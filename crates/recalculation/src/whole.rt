@@ -1,5 +1,5 @@
 // A store whose formulas all are dirty.
-ghost use Rattle.std.specs.Prelude.{◌≡◌, ◌&&◌, cond, IfOk, OnOk};
+ghost use Rattle.std.specs.Prelude.{◌≡◌, ◌&&◌, cond, IfOk, OnOk, Some};
 ghost use Rattle.std.specs.FinMap as map;
 ghost use Rattle.grid_address.specs.Place.{same_place, Place};
 ghost use Rattle.cell_maps.specs.Sets.{has};
@@ -9,9 +9,9 @@ ghost use Rattle.recalculation.specs.Reading.{is_formula_at, node_of, Matches};
 ghost use Rattle.recalculation.specs.inner.Graphs.{with_formula};
 
 use cell_maps::CellSet;
-use depend_graph::{Graph, Node, insert_all};
-use formula_tree::ContentRef;
-use grid_address::Cell;
+use depend_graph::{Graph, Node, Reads, insert_all};
+use formula_tree::{ContentRef, Formula};
+use grid_address::{Cell, Span};
 use lics_text::Memory;
 use sheet_store::Store;
 
@@ -27,8 +27,23 @@ pub fn all_dirty(store: &Store) -> Result<CellSet, Memory>
     Ok(set)
 }
 
-// Puts the formula of a cell into the graph, if the cell holds one.
-fn add_formula(graph: &mut Graph, store: &Store, cell: Cell) -> Result<(), Memory>
+/// What a formula reads in a cell. The list of spans is one in which they may be gathered, whatever stands there.
+pub fn formula_node(formula: &Formula, cell: Cell, spans: &mut Vec<Span>) -> Result<Node, Memory>
+    ensures { IfOk result (λ node. Some node ≡ node_of (Some formula.now) cell) }
+{
+    formula.put_reads(cell, spans)?;
+    let reads = Reads::of(formula.alloc(), spans.as_slice())?;
+    let volatile = formula.is_volatile();
+    Ok(Node { reads, volatile })
+}
+
+// Puts the formula of a cell into the graph, if the cell holds one. The spans are gathered in a list that is there.
+fn add_formula(
+    graph: &mut Graph,
+    store: &Store,
+    cell: Cell,
+    spans: &mut Vec<Span>,
+) -> Result<(), Memory>
     ensures { OnOk result (graph.new ≡ with_formula (node_of (formula_at store.now cell) cell) graph.old cell) }
 {
     let Some(state) = store.get(cell) else {
@@ -37,9 +52,8 @@ fn add_formula(graph: &mut Graph, store: &Store, cell: Cell) -> Result<(), Memor
     let ContentRef::Formula(formula) = state.content() else {
         return Ok(());
     };
-    let reads = formula.reads(cell)?;
-    let volatile = formula.is_volatile();
-    graph.set(cell, Node { reads, volatile })?;
+    let node = formula_node(formula, cell, spans)?;
+    graph.set(cell, node)?;
     Ok(())
 }
 
@@ -50,8 +64,9 @@ fn add_formulas(graph: &mut Graph, store: &Store, cells: &[Cell]) -> Result<(), 
         ≡ cond (has same_place cells.now c && is_formula_at store.now c) (node_of (formula_at store.now c) c)
         (map.get graph.old.formulas c)) }
 {
+    let mut spans = Vec::new(store.alloc());
     for cell in cells {
-        add_formula(graph, store, *cell)?;
+        add_formula(graph, store, *cell, &mut spans)?;
     }
     Ok(())
 }
@@ -62,6 +77,7 @@ pub fn graph_of(store: &Store) -> Result<Graph, Memory>
 {
     let cells = store.formulas()?;
     let mut graph = Graph::new(store.alloc());
+    graph.reserve(cells.len())?;
     add_formulas(&mut graph, store, cells.as_slice())?;
     Ok(graph)
 }

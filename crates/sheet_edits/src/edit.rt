@@ -16,6 +16,7 @@ use depend_graph::{Graph, Node, cut_back, insert, insert_all};
 use formula_tree::ContentRef;
 use grid_address::{Cell, CellList};
 use lics_text::Memory;
+use recalculation::formula_node;
 use sheet_store::{CellState, Store};
 use std::alloc::Global;
 
@@ -24,10 +25,11 @@ pub fn node_of(cell: Cell, state: &CellState) -> Result<Option<Node>, Memory>
     ensures { IfOk result (λ node. node ≡ node_of (formula_in state.now.content) cell) }
 {
     match state.content() {
-        ContentRef::Formula(formula) => Ok(Some(Node {
-            reads: formula.reads(cell)?,
-            volatile: formula.is_volatile(),
-        })),
+        ContentRef::Formula(formula) => {
+            let mut spans = Vec::new(formula.alloc());
+            let node = formula_node(formula, cell, &mut spans)?;
+            Ok(Some(node))
+        }
         ContentRef::Blank | ContentRef::Number(_) | ContentRef::Label(_, _) => Ok(None),
     }
 }

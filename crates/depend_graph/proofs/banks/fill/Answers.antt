@@ -1,4 +1,4 @@
-use Rattle.std.specs.Prelude.{◌<◌, length, ◌++◌, List, ◌∷◌, [], take, get_or}
+use Rattle.std.specs.Prelude.{◌++◌, ◌∷◌, [], take}
 use Rattle.std.specs.FinMap.{get}
 use Rattle.std.proofs.Common.{ap, subst, sym, ◌∙◌}
 use Rattle.std.proofs.lemmas.List.{take_more}
@@ -21,10 +21,8 @@ loop-span-preserved c =
     record {
       is = c.in_ok-add_wide.ensures.is ∙ ap (λ l. l ++ wide (span ∷ [])) c.loop-span.invariant.is
           ∙ sym (wide-append (take c.loop-span.span-index c.args.spans.now) (span ∷ []))
-          ∙ ap (λ (s : Extent). wide (take c.loop-span.span-index c.args.spans.now ++ s ∷ [])) (c.span-item.is
-          ∙ ap (λ (l : List Extent). get_or l c.loop-span.span-index span) c.as_slice-span-items.ensures)
-          ∙ ap wide (sym (take_more c.args.spans.now c.loop-span.span-index span (subst (λ (l : List Extent).
-          c.loop-span.span-index < length l) c.as_slice-span-items.ensures c.loop-span-test.true)));
+          ∙ ap (λ (s : Extent). wide (take c.loop-span.span-index c.args.spans.now ++ s ∷ [])) c.span-item.is
+          ∙ ap wide (sym (take_more c.args.spans.now c.loop-span.span-index span c.loop-span-test.true));
       others = then_others c.args.index.now c.loop-span.index c.add_wide.new.index c.args.owner
           c.loop-span.invariant.others c.add_wide.ensures.others;
     }

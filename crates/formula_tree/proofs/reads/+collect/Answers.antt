@@ -7,7 +7,7 @@ use Rattle.formula_tree.proofs.reads.+collect.Goals as goal
 pub collect-returns-in-Call : goal.collect-returns-in-Call
 collect-returns-in-Call t c =
     let at = c.args.at in
-    subst (λ l. OnOk c.collect_all.result (c.collect_all.new.into ≡ c.args.into.now ++ l))
+    subst (λ l. OnOk c.collect_all.result (c.collect_all.new.into.items ≡ c.args.into.now.items ++ l))
     (spans_listed at c.deref-in-Call.result.now
     ∙ ap (λ es. spans_of_all (listed (map tree_of es)) at) c.deref-in-Call.ensures.value
     ∙ ap (λ x. spans_of x at) (sym (tree_of-Call c.in-Call.field-0 c.in-Call.args))

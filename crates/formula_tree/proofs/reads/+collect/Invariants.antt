@@ -6,4 +6,4 @@ use Rattle.formula_tree.proofs.reads.+collect.Given as goal
 
 abbrev pub invariant-collect_all-loop-arg : goal.invariant-collect_all-loop-arg
 invariant-collect_all-loop-arg l =
-    l.into ≡ l.fn.into ++ flat_map (λ e. spans_of (tree_of e) l.at) (take l.arg-index l.args)
+    l.into.items ≡ l.fn.into.items ++ flat_map (λ e. spans_of (tree_of e) l.at) (take l.arg-index l.args)

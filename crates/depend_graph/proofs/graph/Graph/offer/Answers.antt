@@ -4,6 +4,7 @@ use Rattle.list_lemmas.proofs.Results.{on_err_always}
 use Rattle.depend_graph.proofs.Listing.{listed_on, offering_listed}
 use Rattle.depend_graph.proofs.Offers.{refused, taken_up, unoffered}
 use Rattle.depend_graph.proofs.Viewed.{offered_again, viewed_offered, viewed_withdrawn}
+use Rattle.depend_graph.specs.inner.Banks.{wide}
 use Rattle.depend_graph.specs.inner.Lists.{AreInLists, IsListed}
 use Rattle.depend_graph.specs.Network.{offered, withdrawn, Network}
 use Rattle.depend_graph.specs.inner.Readers.{network_of}
@@ -68,7 +69,7 @@ invariant_of-self-2 c = (
       (taken_up c.self.inside.slots c.drop_part.new.slots c.self.inside.banks.even c.self.inside.banks.odd c.args.cell
       c.drop_part.ensures c.self.invariant.0
       c.fill.new.self.even c.fill.new.self.odd (not c.side-is_odd.result) c.fill.ensures.others
-      (ap not c.side-is_odd.ensures) c.args.node c.in_ok-fill.ensures.is),
+      (ap not c.side-is_odd.ensures) c.args.node (c.in_ok-fill.ensures.is ∙ ap wide c.as_slice-2.ensures)),
   (
     subst (λ (m : Slots). AreInLists m c.add_all.new.lists) (sym c.in_ok-put_offer.ensures.ok)
         (offering_listed c.drop_part.new.slots c.add_all.new.lists

@@ -3,6 +3,7 @@ use Rattle.std.proofs.Common.{ap, subst, sym, ◌∙◌}
 use Rattle.depend_graph.proofs.Kept.{begun_registered, formed_registered}
 use Rattle.depend_graph.proofs.Listing.{all_kept, formed_listed}
 use Rattle.depend_graph.proofs.Viewed.{set_is, viewed_formed}
+use Rattle.depend_graph.specs.inner.Banks.{wide}
 use Rattle.depend_graph.specs.inner.Lists.{AreInLists, IsListed}
 use Rattle.depend_graph.specs.Network.{accepted, put, Network}
 use Rattle.depend_graph.specs.inner.Readers.{network_of}
@@ -51,7 +52,7 @@ invariant_of-self-2 c = (
   subst (λ (m : Slots). AreRegistered m c.fill.new.self.even c.fill.new.self.odd) (sym c.in_ok-put_formula.ensures.ok)
       (formed_registered c.self.inside.slots c.self.inside.banks.even c.self.inside.banks.odd c.fill.new.self.even
       c.fill.new.self.odd false c.args.cell c.fill.ensures.others c.self.invariant.0 c.args.node refl
-      c.in_ok-fill.ensures.is),
+      (c.in_ok-fill.ensures.is ∙ ap wide c.as_slice-2.ensures)),
   (
     subst (λ (m : Slots). AreInLists m c.add_all.new.lists) (sym c.in_ok-put_formula.ensures.ok)
         (formed_listed c.self.inside.slots c.add_all.new.lists
