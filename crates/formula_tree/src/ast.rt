@@ -9,7 +9,7 @@ use lics_text::{Memory, Text};
 use std::alloc::Global;
 
 /// An operator between two operands.
-#[derive(Clone, Copy)]
+#[derive(Clone, Copy, PartialEq, Eq)]
 pub enum Op {
     Pow,
     Mul,

@@ -10,6 +10,7 @@ ghost use Rattle.formula_tree.specs.View.{tree_of};
 use crate::depth::depth_within;
 use crate::reads::{collect, is_volatile};
 use crate::redirect::{keeps_references, redirected_copy};
+use crate::same::is_known;
 use crate::walk::has_shape;
 use crate::{Expr, Redirect};
 use grid_address::{Cell, Span};
@@ -122,6 +123,13 @@ impl Formula {
     {
         into.clear();
         collect(&self.expr, at, into)
+    }
+
+    /// Whether it is known that another formula is this one. It isn't known of one that has a text or calls a function.
+    pub fn is_known_as(&self, other: &Formula) -> bool
+        ensures { result ≡ true → self.now ≡ other.now }
+    {
+        is_known(&self.expr, &other.expr)
     }
 
     /// Whether a function whose value changes by itself is called: NOW, CELL, CELLPOINTER or @@.

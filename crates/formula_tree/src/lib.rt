@@ -9,6 +9,7 @@ mod function;
 mod ranges;
 mod reads;
 mod redirect;
+mod same;
 mod shape;
 mod table;
 mod value;

@@ -67,6 +67,10 @@ content_is at (content.Formula f) (content.Label q t) inside v w h = absurd (fal
 content_is at (content.Formula f) (content.Formula g) inside v w h =
     ap content.Formula (tree_is f g at inside v w ((bytes_eq-Decides (code_of f at) (code_of g at)).0 h))
 
+-- one formula has one code
+pub same_codes : (f g : Tree) (at : Place) → f ≡ g → bytes_eq (code_of f at) (code_of g at) ≡ true
+same_codes f g at e = ap (λ t. bytes_eq (code_of f at) (code_of t at)) (sym e) ∙ bytes_itself (code_of f at)
+
 content_itself : (at : Place) (x : Content) → same_content at x x ≡ true
 content_itself at content.Blank = refl
 content_itself at (content.Number x) = (Decides-int_eq x x).1 refl

@@ -90,6 +90,9 @@ fn is_same_formula(
 ) -> Result<bool, Memory>
     ensures { IfOk result (λ same. same ≡ bytes_eq (code_of one.now at) (code_of other.now at)) }
 {
+    if one.is_known_as(other) {
+        return Ok(true);
+    }
     put_code(one, at, &mut codes.left)?;
     put_code(other, at, &mut codes.right)?;
     Ok(codes.left.as_slice() == codes.right.as_slice())
