@@ -265,3 +265,21 @@ module _ (g : Grid) (cell : Place) (s : CellState) (keeps : is_formula s.content
     dirtied_settled true h now u = subst (AreDirtied (put_state g cell s) (has same_place old) (just cell))
         (λ i c. sym (u c) i) (dirtied_formula h)
     dirtied_settled false h now u = dirtied_other h now u
+
+-- no formula becomes dirty where none is dirty, none is written, and none reads the cell
+pub dirtied_alone : (g : Grid) (cell : Place) (s : CellState) → is_formula s.content ≡ false → (n : Network)
+    → Matches n g → (old : List Place) → old ≡ [] → ((d : Place) → reads n d cell ≡ false)
+    → AreDirtied (put_state g cell s) (has same_place old) (just cell) (has same_place old)
+dirtied_alone g cell s other n m old none unread = subst
+    (λ (l : List Place). AreDirtied (put_state g cell s) (has same_place l) (just cell) (has same_place l)) (sym none)
+    (dirtied_settled g cell s (λ is. absurd (true≢false (sym is ∙ other))) n n m refl [] (cell ∷ [])
+    (λ c in_none. absurd (false≢true in_none))
+    (with_cell n cell [] (λ c d r in_none. absurd (false≢true in_none))
+    (λ d r. absurd (true≢false (sym r ∙ unread d)))) false other (has same_place []) out)
+  where
+    out : (c : Place) → false ≡ cond (same_place cell c) false (has same_place (cell ∷ []) c)
+    out c = elim (cases_Bool (same_place cell c)) [
+      | inl e ↦ sym (ap (λ b. cond b false (has same_place (cell ∷ []) c)) e)
+      | inr e ↦ sym (ap (λ b. b || false) (same_place_laws.symm c cell ∙ e))
+          ∙ sym (ap (λ b. cond b false (has same_place (cell ∷ []) c)) e)
+    ]

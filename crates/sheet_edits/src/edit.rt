@@ -160,8 +160,39 @@ pub fn settle(graph: &mut Graph, dirty: &mut CellSet, cell: Cell, holds_formula:
     }
 }
 
+// Whether an edit of a cell is known to make nothing dirty: it brings no formula, no formula is dirty, and none reads
+// the cell.
+#[inline(always)]
+fn is_alone(graph: &Graph, dirty: &CellSet, cell: Cell, holds_formula: bool) -> bool
+    ensures formula { result ≡ true → holds_formula ≡ false }
+    ensures dirty { result ≡ true → dirty.now.keys ≡ [] }
+    ensures unread { result ≡ true → (d : Place) → reads graph.now d cell ≡ false }
+{
+    !holds_formula && dirty.len() == 0 && graph.is_unread(cell)
+}
+
+// Writes a state without a formula into a cell: the graph drops the formula that is there.
+fn write_alone(
+    store: &mut Store,
+    graph: &mut Graph,
+    cell: Cell,
+    state: CellState,
+) -> Result<(), Memory>
+    requires state { IsSound state }
+    requires other { is_formula state.content ≡ false }
+    requires matches { Matches graph.old store.old }
+    ensures store { OnOk result (store.new ≡ put_state store.old cell state) }
+    ensures matches { Matches graph.new store.new }
+    ensures store_err { OnErr result (store.new ≡ store.old) }
+{
+    store.put(cell, state)?;
+    graph.drop_cell(cell);
+    Ok(())
+}
+
 /// Writes a state into a cell. Where there is no memory, the store and the dirty set are as before, and so are the
 /// formulas of the graph.
+#[inline(always)]
 pub fn write_cell(
     store: &mut Store,
     graph: &mut Graph,
@@ -183,6 +214,9 @@ pub fn write_cell(
 {
     let count = dirty.len();
     let holds_formula = state.is_formula();
+    if is_alone(graph, dirty, cell, holds_formula) {
+        return write_alone(store, graph, cell, state);
+    }
     match prepare(store, graph, dirty, cell, state) {
         Ok(()) => {
             settle(graph, dirty, cell, holds_formula);
