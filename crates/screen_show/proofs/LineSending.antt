@@ -1,11 +1,12 @@
 -- One line that is sent, run by run.
 use Rattle.std.proofs.Common.{◌≡◌, ℕ, suc, zero, ◌+◌, ◌-◌, ◌^◌, ◌<◌, ◌≤◌, true, List, [], ◌∷◌, ◌++◌, length, take, drop}
-use Rattle.std.proofs.Common.{get_or, set, Option, Some, None, Ok, refl, ap, sym, ◌∙◌, subst, arith, append_assoc}
-use Rattle.std.proofs.Common.{length-append}
+use Rattle.std.proofs.Common.{get_or, set, Option, Some, None, Result, Ok, refl, ap, sym, ◌∙◌, subst, arith}
+use Rattle.std.proofs.Common.{append_assoc, length-append}
 use Rattle.std.specs.Prelude.{◌==◌}
 use Rattle.std.proofs.lemmas.Bool.{eq-eqb}
 use Rattle.std.proofs.lemmas.List.{drop_more, take_more, length-take-le, length-drop}
 use Rattle.std.proofs.lemmas.List.{set-get_or, get_or-set_same, set-set, take_at, drop_at, drop-drop}
+use Rattle.outside_world.specs.declared.faults.Failed.{Failed}
 use Rattle.screen_show.specs.Changes.{line_differences, line_runs}
 use Rattle.screen_show.specs.inner.Patches.{patched_line, differing_front}
 use Rattle.screen_show.specs.Display.{Shown, Puts, TellsSoundly, raised, with_bytes}
@@ -213,6 +214,12 @@ module _ (at k : ℕ) (before after before_rest after_rest : List ℕ) (b : befo
       let after_is : drop k after_rest ≡ drop (at + k) after = ap (drop k) a ∙ drop-drop k at after in
       subst (λ (xs : List ℕ). 0 < differing_front xs (drop (at + k) after)) before_is
       (subst (λ (ys : List ℕ). 0 < differing_front (drop k before_rest) ys) after_is (differ inside))
+
+-- a line is put whole, where nothing is told of it
+pub line_whole : (row : ℕ) (before after : List ℕ) (was now : Option Shown) (result : Result Unit Failed) → was ≡ None
+    → Puts row 0 after was now result → SendsLine row before after was now result
+line_whole row before after None now result none put = put
+line_whole row before after (Some s) now result none put = absurd cc
 
 -- a line that did not change
 same_line_patched : (xs line : List ℕ) → length line ≡ length xs → patched_line xs xs line ≡ line

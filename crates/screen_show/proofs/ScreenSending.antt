@@ -49,6 +49,12 @@ screen_sound row before after None (Some t) on = absurd cc
 screen_sound row before after (Some s) None on = absurd on
 screen_sound row before after (Some s) (Some t) on = on.sound
 
+-- a display that told nothing tells nothing
+pub screen_untold : (row : ℕ) (before after : List (List ℕ)) (was now : Option Shown)
+    → SendingScreen row before after was now → was ≡ None → now ≡ None
+screen_untold row before after None now on none = on
+screen_untold row before after (Some s) now on none = absurd cc
+
 module _ (row : ℕ) (before after : List (List ℕ)) (b a : List ℕ) (below : row < 25) (before_shape : IsScreen before)
     (after_shape : IsScreen after)
     (b_is : slice_get before row ≡ Some b) (a_is : slice_get after row ≡ Some a) (b_wide : length b ≡ 80)

@@ -1,12 +1,12 @@
 // Sends a screen to a display, by what changed.
-ghost use Rattle.std.specs.Prelude.{◌≡◌, ◌≤◌, ◌<◌, ◌+◌, length, take, drop};
+ghost use Rattle.std.specs.Prelude.{◌≡◌, ◌≤◌, ◌<◌, ◌+◌, None, length, take, drop, true};
 ghost use Rattle.outside_world.specs.Causes.{HasCause};
 ghost use Rattle.screen_show.specs.Changes.{Unchanged};
 ghost use Rattle.screen_show.specs.inner.Patches.{differing_front};
 ghost use Rattle.screen_show.specs.Display.{Puts, Finishes, Sends, TellsSoundly};
 ghost use Rattle.screen_show.specs.inner.Lines.{SendsLine};
 
-use crate::{Display, LineSet, Screen};
+use crate::{Display, DisplayKind, LineSet, Screen};
 use outside_world::Failed;
 
 // Puts a run of bytes into a line.
@@ -29,11 +29,16 @@ fn end_frame(display: &mut dyn Display) -> Result<(), Failed>
     display.done()
 }
 
-// A display tells a screen of 25 lines of 80 bytes, and counts below 2 to the 64.
-fn is_sound(display: &dyn Display)
-    ensures { TellsSoundly (seen display.now).told }
+// Whether a display takes whole lines: it shows pages, which are written whole, and tells nothing of what it shows. One
+// that tells it tells a screen of 25 lines of 80 bytes, and counts below 2 to the 64.
+fn takes_lines(display: &dyn Display) -> bool
+    ensures untold { result ≡ true → (seen display.now).told ≡ None }
+    ensures sound { TellsSoundly (seen display.now).told }
 {
-    let _kind = display.kind();
+    match display.kind() {
+        DisplayKind::Pages | DisplayKind::Last => display.recorder().is_none(),
+        DisplayKind::Ansi => false,
+    }
 }
 
 // The bytes from a place on.
@@ -133,16 +138,26 @@ fn equal_len(before: &[u8], after: &[u8]) -> usize
     len
 }
 
-// Puts the changed runs of one line.
-fn send_line(before: &[u8], after: &[u8], row: u8, display: &mut dyn Display) -> Result<(), Failed>
+// Puts the changed runs of one line, or the line whole where nothing is told of it.
+fn send_line(
+    before: &[u8],
+    after: &[u8],
+    row: u8,
+    whole: bool,
+    display: &mut dyn Display,
+) -> Result<(), Failed>
     requires row_in { row ≤ 24 }
     requires before_width { length before.now ≡ 80 }
     requires after_width { length after.now ≡ 80 }
+    requires untold { whole ≡ true → (seen display.old).told ≡ None }
     requires sound { TellsSoundly (seen display.old).told }
     ensures shown { SendsLine row before.now after.now (seen display.old).told (seen display.new).told result }
     ensures kind { (seen display.new).kind ≡ (seen display.old).kind }
     ensures cause { HasCause (seen display.old).faults (seen display.new).faults result }
 {
+    if whole {
+        return put_run(display, row, 0, after);
+    }
     let mut col = equal_len(before, after);
     while col < after.len() {
         let len = differing_len(rest(before, col), rest(after, col));
@@ -155,7 +170,8 @@ fn send_line(before: &[u8], after: &[u8], row: u8, display: &mut dyn Display) ->
 
 /// Sends the screen `after` to a display that shows `before`, where the two have all lines in common that are not in
 /// the set: it puts the changed runs of each line of the set, a run being a longest stretch of bytes of one line in
-/// which the two differ, and ends the frame.
+/// which the two differ, and ends the frame. A display that shows pages and tells nothing of what it shows is put each
+/// line of the set whole.
 /// It fails only where the display's count of faults rose, and has then added no frame.
 pub fn send_lines(
     before: &Screen,
@@ -170,10 +186,10 @@ pub fn send_lines(
 {
     before.is_whole();
     after.is_whole();
-    is_sound(display);
+    let whole = takes_lines(display);
     let mut row = lines.next_from(0);
     while row < 25 {
-        send_line(before.line(row), after.line(row), row, display)?;
+        send_line(before.line(row), after.line(row), row, whole, display)?;
         row = lines.next_from(row + 1);
     }
     end_frame(display)

@@ -1,8 +1,13 @@
 use Rattle.std.proofs.Common.{rules, ◌≡◌, ◌≤◌, ◌<◌, ◌+◌, length, arith, ap, ◌∙◌, drop, take}
 use Rattle.std.proofs.lemmas.List.{length-drop}
 use Rattle.screen_show.specs.inner.Patches.{differing_front}
-use Rattle.screen_show.proofs.LineSending.{line_begins, line_put, line_stretch, rests_differ, rests_equal}
+use Rattle.screen_show.proofs.LineSending.{line_begins, line_put, line_stretch, line_whole, rests_differ, rests_equal}
 use Rattle.screen_show.proofs.sender.send_line.Goals as goal
+
+pub returns-then-whole-clause-shown : goal.returns-then-whole-clause-shown
+returns-then-whole-clause-shown g c =
+    line_whole c.args.row c.args.before.now c.args.after.now _ _ _ (c.requires.untold c.if-whole.true)
+    c.put_run.ensures.shown
 
 pub loop-col-init : goal.loop-col-init
 loop-col-init g c = record {

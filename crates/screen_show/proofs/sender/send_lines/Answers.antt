@@ -1,5 +1,5 @@
 use Rattle.std.proofs.Common.{rules, arith, ◌+◌}
-use Rattle.screen_show.proofs.ScreenSending.{screen_starts, screen_more, screen_passes, screen_ends}
+use Rattle.screen_show.proofs.ScreenSending.{screen_starts, screen_more, screen_passes, screen_ends, screen_untold}
 use Rattle.screen_show.proofs.sender.send_lines.Goals as goal
 
 pub loop-row-init : goal.loop-row-init
@@ -9,10 +9,14 @@ loop-row-init g c = record {
       screen_passes c.args.lines.now c.args.before.now c.args.after.now c.is_whole.ensures c.is_whole-2.ensures
       c.requires
       0 _ _ _ (omega arith) c.next_from-row.ensures.within.1 c.next_from-row.ensures.passed
-      (screen_starts c.args.before.now c.args.after.now _ c.is_sound.ensures);
+      (screen_starts c.args.before.now c.args.after.now _ c.takes_lines-whole.ensures.sound);
   kind = search rules;
   faults = search rules;
 }
+
+pub send_line-requires-clause-untold : goal.send_line-requires-clause-untold
+send_line-requires-clause-untold g c = λ whole. screen_untold c.loop-row.row c.args.before.now c.args.after.now _ _
+    c.loop-row.invariant.lines (c.takes_lines-whole.ensures.untold whole)
 
 pub loop-row-preserved : goal.loop-row-preserved
 loop-row-preserved g c = record {
@@ -34,4 +38,4 @@ loop-row-preserved g c = record {
 pub returns-clause-shown : goal.returns-clause-shown
 returns-clause-shown g c =
     screen_ends c.loop-row.row c.args.before.now c.args.after.now _ _ _ _ c.is_whole.ensures c.is_whole-2.ensures
-    c.is_sound.ensures (omega arith) c.loop-row.invariant.lines c.end_frame.ensures.shown
+    c.takes_lines-whole.ensures.sound (omega arith) c.loop-row.invariant.lines c.end_frame.ensures.shown
