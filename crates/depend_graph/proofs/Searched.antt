@@ -1,9 +1,10 @@
 -- What a search has met, step by step.
 use Rattle.std.specs.Prelude.{ℕ, ◌≡◌, ◌<◌, ◌||◌, ◌⊎◌, ◌↔◌, Bool, true, false, cond, List, [], ◌∷◌, ◌++◌, length}
 use Rattle.std.proofs.Common.{sym, ◌∙◌, ap, subst, inl, inr, arith, length-append}
-use Rattle.std.specs.List.{AllByRecursion, IsDistinct}
+use Rattle.std.specs.List.{IsDistinct}
 use Rattle.std.proofs.lemmas.Bool.{true≢false, false≢true, cases_Bool, false_from_ne_true, or_cases, or_left, or_right}
 use Rattle.std.proofs.lemmas.List.Folds.{list_any-append}
+use Rattle.std.proofs.lemmas.Map.Keys.{IsDistinct-push}
 use Rattle.cell_maps.specs.Sets.{has}
 use Rattle.grid_address.proofs.Places.{same_place_is, same_place_itself, same_place_laws}
 use Rattle.grid_address.specs.Place.{same_place, InSheet, Place}
@@ -41,20 +42,6 @@ snoc_not xs c d h k = false_from_ne_true _
 apart_none : IsDistinct same_place []
 unfolding IsDistinct
 apart_none = tt
-
-apart_snoc : (xs : List Place) (c : Place) → IsDistinct same_place xs → has same_place xs c ≡ false
-    → IsDistinct same_place (xs ++ c ∷ [])
-unfolding IsDistinct
-apart_snoc [] c d h = (tt, tt)
-apart_snoc (x ∷ xs) c d h = (
-  all_snoc xs (turned c x false (false_from_ne_true _ (λ k. true≢false (sym (or_left _ _ k) ∙ h)))) d.0,
-  apart_snoc xs c d.1 (false_from_ne_true _ (λ k. true≢false (sym (or_right (same_place c x) _ k) ∙ h))),
-)
-  where
-    all_snoc : (ys : List Place) → same_place x c ≡ false → AllByRecursion (λ y. same_place x y ≡ false) ys
-        → AllByRecursion (λ y. same_place x y ≡ false) (ys ++ c ∷ [])
-    all_snoc [] e a = (e, tt)
-    all_snoc (y ∷ ys) e a = (a.0, all_snoc ys e a.1)
 
 module _ (g : Network) (cells : List Place) where
   -- nothing is met, and the cells are on the stack
@@ -129,7 +116,8 @@ module _ (g : Network) (cells : List Place) where
         ]
       ];
       distinct =
-          subst (IsDistinct same_place) (sym met) (apart_snoc s.met.items c h.distinct (h.unmet c inside zero_here));
+          subst (IsDistinct same_place) (sym met)
+          (IsDistinct-push same_place_laws s.met.items c h.distinct (h.unmet c inside zero_here));
     }
       where
         one_not : ◌≡◌ {A = ℕ} 1 0 → ⊥
