@@ -1,11 +1,12 @@
 -- The numbers of a table above one of them.
-use Rattle.std.specs.Prelude.{ℕ, suc, zero, ◌≡◌, ◌+◌, ◌-◌, cond, refl, List, [], ◌∷◌, length, map, get_or, None, Some}
-use Rattle.std.proofs.Common.{sym, ◌∙◌, ap, arith, inl, inr}
+use Rattle.std.specs.Prelude.{ℕ, suc, zero, ◌≡◌, ◌+◌, ◌-◌, ◌<◌, ◌≤◌, cond, refl, List, [], ◌∷◌, length, map, get_or}
+use Rattle.std.specs.Prelude.{None, Some}
+use Rattle.std.proofs.Common.{sym, ◌∙◌, ap, arith, inl, inr, subst}
 use Rattle.std.proofs.lemmas.Bool.{cases_Bool}
 use Rattle.std.proofs.lemmas.Option.{slice_get_within}
 use Rattle.grid_address.specs.Place.{same_place, InSheet, Place}
 use Rattle.grid_address.proofs.Places.{same_place_is}
-use Rattle.cell_maps.specs.inner.Numbering.{AreNumbered}
+use Rattle.cell_maps.specs.inner.Numbering.{AreNumbered, AreWaiting}
 use Rattle.cell_maps.specs.Numbers.{head_of, number_at, number_in, place_of, Numbers}
 use Rattle.cell_maps.specs.inner.Numbering.{above}
 
@@ -74,3 +75,27 @@ all_gone gone k t cells ok long = record {
         let m : number_at t c - gone ≡ suc (k + i) = omega (arith, n) in
         let w = slice_get_within cells (k + i) c (ok.found c (k + i) inside (above_at gone t c ∙ m)) in
         absurd (omega (arith, w, long))
+
+-- where all cells of a set are taken out, they wait to be put back
+pub all_wait : (gone k : ℕ) (t : Numbers) (cells now before : List Place) → now ≡ [] → before ≡ cells → k ≡ length cells
+    → AreNumbered (above gone t) cells → AreWaiting (gone + k) t now before
+all_wait gone k t cells now before none is long ok =
+    let same : gone + k - length before ≡ gone = let e = ap length is in omega (arith, e, long) in
+    let few : length before ≤ gone + k = let e = ap length is in omega (arith, e, long) in
+    inr (
+      none,
+      (
+        few,
+        subst (λ n. AreNumbered (above n t) before) (sym same)
+            (subst (AreNumbered (above gone t)) (sym is) ok),
+      ),
+    )
+
+-- a number that isn't above is none there
+pub fresh_above : (gone : ℕ) (t : Numbers) (c : Place) → number_at t c ≤ gone → number_at (above gone t) c ≡ 0
+fresh_above gone t c le = above_at gone t c ∙ omega (arith, le)
+
+-- one that is above is one there
+pub had_above : (gone : ℕ) (t : Numbers) (c : Place) → gone < number_at t c
+    → (i : ℕ) × (number_at (above gone t) c ≡ suc i)
+had_above gone t c lt = (number_at t c - gone - 1, above_at gone t c ∙ omega (arith, lt))

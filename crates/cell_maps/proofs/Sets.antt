@@ -1,6 +1,6 @@
 -- What a set of numbered cells has, and what it has after a cell is taken out.
 use Rattle.std.specs.Prelude.{ℕ, suc, zero, ◌≡◌, ◌<◌, ◌≤◌, ◌++◌, ◌||◌, cond, refl, true, false, List, [], ◌∷◌}
-use Rattle.std.specs.Prelude.{length, take, get_or, set, slice_get, nat_eq, nat_lt, Some}
+use Rattle.std.specs.Prelude.{length, take, get_or, set, slice_get, nat_eq, nat_lt, Bool, if◌then◌else◌, Some}
 use Rattle.std.specs.List.{AllByRecursion, IsDistinct}
 use Rattle.std.proofs.Common.{sym, ◌∙◌, ap, subst, arith, inl, inr, ◌⊎◌}
 use Rattle.std.proofs.lemmas.Bool.{cases_Bool, eq-eqb, eqb-true, false≢true, false_from_ne_true, ltb-false, ltb-true}
@@ -13,7 +13,7 @@ use Rattle.grid_address.specs.Place.{same_place, InSheet, Place}
 use Rattle.grid_address.proofs.Places.{same_place_is, same_place_itself, same_place_laws}
 use Rattle.cell_maps.specs.inner.Numbering.{AreNumbered}
 use Rattle.cell_maps.specs.Numbers.{head_of, number_at, number_in, place_of, HasRoom, Numbers}
-use Rattle.cell_maps.specs.Sets.{has}
+use Rattle.cell_maps.specs.Sets.{has, insert_key}
 use Rattle.cell_maps.proofs.Filled.{last_is, last_or, longer}
 
 -- a member has a place in the list
@@ -301,3 +301,12 @@ module _ (old mid new : Numbers) (cells : List Place) (at : ℕ) (c last : Place
               member new (set cells at last) removed d a.0 a.1.1
               (number_beside d a.1.1 (λ e. false≢true (sym f ∙ ap (same_place c) (sym e) ∙ same_place_itself c))
               (λ e. false≢true (sym g ∙ ap (same_place last) (sym e) ∙ same_place_itself last)) ∙ a.1.0)
+
+-- a cell that is there isn't put in again
+pub put_again : (keys : List Place) (c : Place) → has same_place keys c ≡ true → keys ≡ insert_key same_place keys c
+put_again keys c h = sym (ap (λ (b : Bool). if b then keys else keys ++ c ∷ []) h)
+
+-- one that isn't comes behind the others
+pub put_behind : (keys : List Place) (c : Place) → has same_place keys c ≡ false
+    → keys ++ c ∷ [] ≡ insert_key same_place keys c
+put_behind keys c h = sym (ap (λ (b : Bool). if b then keys else keys ++ c ∷ []) h)

@@ -8,5 +8,5 @@ mod table;
 
 pub use held::Held;
 pub use map::CellMap;
-pub use set::CellSet;
+pub use set::{CellSet, are_same};
 pub use table::PlaceTable;

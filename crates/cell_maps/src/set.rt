@@ -1,5 +1,5 @@
 // Sets of cells.
-ghost use Rattle.std.specs.Prelude.{◌≡◌, ◌<◌, ◌+◌, ◌++◌, ◌∷◌, [], ◌-◌, ◌^◌, ◌⊎◌, suc, cond, length, take, false, IfNone, IfSome, OnOk, OnErr, IfOk};
+ghost use Rattle.std.specs.Prelude.{◌≡◌, ◌<◌, ◌+◌, ◌++◌, ◌∷◌, [], ◌-◌, ◌^◌, ◌⊎◌, suc, cond, length, take, true, false, IfNone, IfSome, OnOk, OnErr, IfOk};
 ghost use Rattle.std.specs.List.{IsDistinct};
 ghost use Rattle.grid_address.specs.Place.{same_place, InSheet, Place};
 ghost use Rattle.cell_maps.specs.Numbers.{number_at};
@@ -10,30 +10,33 @@ use crate::PlaceTable;
 use grid_address::Cell;
 use std::alloc::{AllocError, Global};
 use std::marker::Model;
+use std::mem::swap;
 
 /// Up to which number all cells may be taken out at once: further ones fit a number of 32 bits.
 const MOST_GONE: u32 = 2_145_386_496;
 
 /// A set of cells, in the order in which they came in. A cell is found by its number, which tells its place in the
-/// order. The first one's is one above those that are gone, which cells that were taken out still have.
+/// order. The first one's is one above those that are gone, which cells that were taken out still have. Where the set
+/// has no cell, those that were taken out last at once may be kept, whose numbers are the last ones that are gone.
 #[derive(Drop)]
 pub struct CellSet {
     table: PlaceTable,
     cells: Vec<Cell>,
     gone: u32,
+    before: Vec<Cell>,
 }
 
 impl Model for CellSet {
     ghost use Rattle.std.specs.Prelude.{◌≤◌, ◌^◌};
-    ghost use Rattle.cell_maps.specs.inner.Numbering.{AreNumbered};
-    ghost use Rattle.cell_maps.specs.inner.Numbering.{above};
+    ghost use Rattle.cell_maps.specs.inner.Numbering.{above, AreNumbered, AreWaiting};
     ghost use Rattle.cell_maps.specs.Sets.{Cells};
 
     ghost Value = { Cells };
 
     ghost view = { λ s. record { keys = s.cells.items } };
 
-    ghost invariant = { λ s. (s.gone ≤ 2 ^ 31) × AreNumbered (above s.gone s.table) s.cells.items };
+    ghost invariant = { λ s. (s.gone ≤ 2 ^ 31) × (AreNumbered (above s.gone s.table) s.cells.items
+        × AreWaiting s.gone s.table s.cells.items s.before.items) };
 }
 
 // Where a cell stands in the order, if its number is above those that are gone.
@@ -78,6 +81,23 @@ fn add(
     }
 }
 
+/// Whether two lists of cells are the same.
+pub fn are_same(cells: &[Cell], others: &[Cell]) -> bool
+    ensures { result ≡ true → cells.now ≡ others.now }
+{
+    if cells.len() != others.len() {
+        return false;
+    }
+    let mut next = 0;
+    'cells: while next < cells.len() {
+        if cells[next] != others[next] {
+            return false;
+        }
+        next += 1;
+    }
+    true
+}
+
 impl CellSet {
     /// No cell. It takes no memory.
     pub fn new(alloc: Global) -> CellSet
@@ -87,6 +107,7 @@ impl CellSet {
             table: PlaceTable::new(alloc),
             cells: Vec::new(alloc),
             gone: 0,
+            before: Vec::new(alloc),
         }
     }
 
@@ -137,23 +158,41 @@ impl CellSet {
         }
     }
 
-    // Whether a cell more, and its number, find room in the memory that the set has. Nothing but time hangs on it.
+    // Adds a cell, unless it is in the set, where it and its number find room in the memory that the set has; whether
+    // they do. It makes no call, so that its page is looked up once.
     #[inline(always)]
-    fn has_room(&self, cell: Cell) -> bool {
-        self.table.has_page(cell) && self.cells.len() < self.cells.capacity()
+    fn insert_in_room(&mut self, cell: Cell) -> bool
+        ensures yes { result ≡ true → self.new.keys ≡ insert_key same_place self.old.keys cell }
+        ensures no { result ≡ false → self.new.keys ≡ self.old.keys }
+    {
+        cell.is_on_sheet();
+        if self.cells.len() >= self.cells.capacity() {
+            return false;
+        }
+        self.before.clear();
+        let number = self.gone + self.cells.len() as u32 + 1;
+        match self.table.put_above(cell, self.gone, number) {
+            Some(put) => {
+                if put {
+                    self.cells.push_reserved(cell);
+                }
+                true
+            }
+            None => false,
+        }
     }
 
     /// Adds a cell behind the others, unless it is in the set, which stays as it was where there is no memory. Where
     /// the set has room, which is nearly always, it makes no call.
+    #[inline(always)]
     pub fn insert(&mut self, cell: Cell) -> Result<(), AllocError>
         ensures ok { OnOk result (self.new.keys ≡ insert_key same_place self.old.keys cell) }
         ensures err { OnErr result (self.new.keys ≡ self.old.keys) }
     {
-        if self.has_room(cell) {
-            self.insert_here(cell)
-        } else {
-            self.insert_apart(cell)
+        if self.insert_in_room(cell) {
+            return Ok(());
         }
+        self.insert_apart(cell)
     }
 
     // Adds a cell as `insert` does, by a call of its own: for a set that may have to grow.
@@ -162,21 +201,31 @@ impl CellSet {
         ensures ok { OnOk result (self.new.keys ≡ insert_key same_place self.old.keys cell) }
         ensures err { OnErr result (self.new.keys ≡ self.old.keys) }
     {
-        self.insert_here(cell)
-    }
-
-    // Adds a cell as `insert` does, within the code around it.
-    #[inline(always)]
-    fn insert_here(&mut self, cell: Cell) -> Result<(), AllocError>
-        ensures ok { OnOk result (self.new.keys ≡ insert_key same_place self.old.keys cell) }
-        ensures err { OnErr result (self.new.keys ≡ self.old.keys) }
-    {
         cell.is_on_sheet();
         if self.contains(cell) {
             return Ok(());
         }
+        self.before.clear();
         add(&mut self.table, self.gone, &mut self.cells, cell)?;
         Ok(())
+    }
+
+    /// Puts cells into the set, which has none, where they are those that were last taken out all at once; whether they
+    /// are. Else the set stays as it was.
+    pub fn put_back(&mut self, cells: &[Cell]) -> bool
+        ensures was { result ≡ true → self.old.keys ≡ [] }
+        ensures yes { result ≡ true → self.new.keys ≡ cells.now }
+        ensures no { result ≡ false → self.new.keys ≡ self.old.keys }
+    {
+        if !self.cells.is_empty() {
+            return false;
+        }
+        if !are_same(self.before.as_slice(), cells) {
+            return false;
+        }
+        self.gone -= self.before.len() as u32;
+        swap(&mut self.cells, &mut self.before);
+        true
     }
 
     /// Takes a cell out, and puts the last one in its place. It takes no memory.
@@ -188,6 +237,7 @@ impl CellSet {
         let Some(at) = place_in_order(&self.table, self.gone, cell) else {
             return;
         };
+        self.before.clear();
         if let Some(last) = self.cells.pop() {
             last.is_on_sheet();
             self.table.set(last, self.gone + at as u32 + 1);
@@ -202,6 +252,7 @@ impl CellSet {
     fn pop(&mut self)
         ensures { self.new.keys ≡ take (length self.old.keys - 1) self.old.keys }
     {
+        self.before.clear();
         if let Some(cell) = self.cells.pop() {
             cell.is_on_sheet();
             self.table.set(cell, 0);
@@ -214,6 +265,7 @@ impl CellSet {
     {
         if self.gone < MOST_GONE {
             self.gone += self.cells.len() as u32;
+            swap(&mut self.cells, &mut self.before);
             self.cells.clear();
         }
     }

@@ -1,5 +1,5 @@
 // The numbers of places.
-ghost use Rattle.std.specs.Prelude.{◌≡◌, false, true, ℕ, ◌<◌, ◌≤◌, ◌+◌, ◌-◌, ◌*◌, ◌/◌, ◌%◌, ◌⊎◌, cond, length, get_or, OnOk, OnErr};
+ghost use Rattle.std.specs.Prelude.{◌≡◌, false, true, ℕ, ◌<◌, ◌≤◌, ◌+◌, ◌-◌, ◌*◌, ◌/◌, ◌%◌, ◌⊎◌, cond, length, get_or, IfNone, IfSome, OnOk, OnErr};
 ghost use Rattle.grid_address.specs.Place.{same_place, InSheet, Place};
 ghost use Rattle.cell_maps.specs.Numbers.{band_of, head_of, number_at, page_of, place_of, HasRoom};
 ghost use Rattle.cell_maps.specs.inner.Numbering.{used};
@@ -118,12 +118,6 @@ impl PlaceTable {
         }
     }
 
-    // Whether the page of a cell has room for numbers. Nothing but time hangs on it.
-    #[inline(always)]
-    pub(crate) fn has_page(&self, cell: Cell) -> bool {
-        self.head_of(cell) != 0
-    }
-
     /// The number of a cell.
     #[inline(always)]
     pub fn number_at(&self, cell: Cell) -> u32
@@ -233,5 +227,29 @@ impl PlaceTable {
         cell.is_on_sheet();
         let at = index_in(self.head_of(cell), cell);
         self.numbers[at] = number;
+    }
+
+    /// Gives a cell another number where its own isn't above one of them, and tells whether it got it; none where its
+    /// page has no room.
+    #[inline(always)]
+    pub(crate) fn put_above(&mut self, cell: Cell, gone: u32, number: u32) -> Option<bool>
+        ensures none { IfNone result (self.new ≡ self.old) }
+        ensures had { IfSome result (λ put. put ≡ false → gone < number_at self.old cell) }
+        ensures same { IfSome result (λ put. put ≡ false → self.new ≡ self.old) }
+        ensures fresh { IfSome result (λ put. put ≡ true → number_at self.old cell ≤ gone) }
+        ensures set { IfSome result (λ put. put ≡ true → (d : Place) → InSheet d →
+            number_at self.new d ≡ cond (same_place cell d) number (number_at self.old d)) }
+    {
+        cell.is_on_sheet();
+        let head = self.head_of(cell);
+        if head == 0 {
+            return None;
+        }
+        let at = index_in(head, cell);
+        if self.numbers[at] > gone {
+            return Some(false);
+        }
+        self.numbers[at] = number;
+        Some(true)
     }
 }

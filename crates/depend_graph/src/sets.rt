@@ -9,6 +9,7 @@ use grid_address::Cell;
 use lics_text::Memory;
 
 /// Adds a cell behind the others, unless it is in the set.
+#[inline(always)]
 pub fn insert(set: &mut CellSet, cell: Cell) -> Result<(), Memory>
     ensures keys { OnOk result (set.new.keys ≡ insert_key same_place set.old.keys cell) }
     ensures extends { Extends set.old.keys set.new.keys }
@@ -23,6 +24,9 @@ pub fn insert_all(set: &mut CellSet, cells: &[Cell]) -> Result<(), Memory>
         ((c : Place) → has same_place set.new.keys c ≡ (has same_place set.old.keys c || has same_place cells.now c)) }
     ensures extends { Extends set.old.keys set.new.keys }
 {
+    if set.put_back(cells) {
+        return Ok(());
+    }
     for cell in cells {
         insert(set, *cell)?;
     }

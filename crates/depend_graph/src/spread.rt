@@ -7,6 +7,7 @@ ghost use Rattle.depend_graph.specs.inner.Spreads.{is_of, list_of, AreKept, IsKe
 use crate::Graph;
 use crate::closure::closure;
 use crate::in_order::is_in_order;
+use cell_maps::are_same;
 use grid_address::{Cell, CellList};
 use lics_text::Memory;
 use std::alloc::Global;
@@ -93,21 +94,4 @@ pub fn order_kept(kept: &Option<Spread>, cells: &[Cell]) -> Option<bool>
         }
     }
     None
-}
-
-// Whether two lists are the same.
-fn are_same(cells: &[Cell], others: &[Cell]) -> bool
-    ensures { result ≡ true → cells.now ≡ others.now }
-{
-    if cells.len() != others.len() {
-        return false;
-    }
-    let mut next = 0;
-    'cells: while next < cells.len() {
-        if cells[next] != others[next] {
-            return false;
-        }
-        next += 1;
-    }
-    true
 }

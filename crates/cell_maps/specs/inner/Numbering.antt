@@ -25,3 +25,8 @@ pub record AreNumbered (bands : Numbers) (cells : List Place) : Type 0 where
   pub inside : (i : ℕ) (c : Place) → slice_get cells i ≡ Some c → InSheet c
   pub told : (i : ℕ) (c : Place) → slice_get cells i ≡ Some c → number_at bands c ≡ suc i
   pub found : (c : Place) (i : ℕ) → InSheet c → number_at bands c ≡ suc i → slice_get cells i ≡ Some c
+
+-- the cells that were taken out last have the last numbers that are gone; there are none where the set has a cell
+abbrev pub AreWaiting : ℕ → Numbers → List Place → List Place → Type 0
+AreWaiting gone t cells before = (before ≡ [])
+    ⊎ ((cells ≡ []) × ((length before ≤ gone) × AreNumbered (above (gone - length before) t) before))

@@ -8,4 +8,4 @@ use Rattle.cell_maps.proofs.set.CellSet.len.Goals as goal
 
 pub returns-clause-unique : goal.returns-clause-unique
 returns-clause-unique c = subst (λ (s : Cells). IsDistinct same_place s.keys) c.self.view_is
-    (distinct (above c.self.inside.gone c.self.inside.table) c.self.inside.cells.items c.self.invariant.1)
+    (distinct (above c.self.inside.gone c.self.inside.table) c.self.inside.cells.items c.self.invariant.1.0)

@@ -1,6 +1,6 @@
 use Rattle.std.specs.Prelude.{ℕ, ◌≡◌, ◌<◌, ◌+◌, ◌≤◌, ◌++◌, ◌∷◌, [], suc, cond, false, length}
 use Rattle.std.proofs.lemmas.Option.{slice_get_within}
-use Rattle.std.proofs.Common.{ap, arith, subst, sym, ◌∙◌}
+use Rattle.std.proofs.Common.{ap, arith, inl, subst, sym, ◌∙◌}
 use Rattle.grid_address.specs.Place.{same_place, InSheet, Place}
 use Rattle.cell_maps.specs.inner.Numbering.{AreNumbered}
 use Rattle.cell_maps.specs.Numbers.{number_at, Numbers}
@@ -15,20 +15,21 @@ pub returns-in_default : goal.returns-in_default
 returns-in_default c = λ d.
     subst (λ (s : Cells). has same_place s.keys d ≡ cond (same_place c.args.cell d) false (has same_place s.keys d))
     c.self.view_is
-    (none_gone (above c.self.inside.gone c.self.inside.table) c.self.inside.cells.items c.self.invariant.1 c.args.cell
+    (none_gone (above c.self.inside.gone c.self.inside.table) c.self.inside.cells.items c.self.invariant.1.0 c.args.cell
     c.in_default.ensures.none d)
 
 -- the cells with the last one behind the others
 numbered : (c : goal.After-set-arg-1)
     → AreNumbered (above c.self.inside.gone c.self.inside.table) (c.pop.new.self.items ++ c.in-Some-pop.last ∷ [])
 numbered c =
-    subst (AreNumbered (above c.self.inside.gone c.self.inside.table)) c.in-Some-pop.ensures.items c.self.invariant.1
+    subst (AreNumbered (above c.self.inside.gone c.self.inside.table)) c.in-Some-pop.ensures.items c.self.invariant.1.0
 
 few : (c : goal.After-set-arg-1) → c.in-Some.at < 2097152
 few c =
-    let most = few_places (above c.self.inside.gone c.self.inside.table) c.self.inside.cells.items c.self.invariant.1 in
+    let most = few_places (above c.self.inside.gone c.self.inside.table) c.self.inside.cells.items
+    c.self.invariant.1.0 in
     let w = slice_get_within c.self.inside.cells.items c.in-Some.at c.args.cell
-    (c.self.invariant.1.found c.args.cell c.in-Some.at c.is_on_sheet.ensures c.in-Some.ensures.some) in
+    (c.self.invariant.1.0.found c.args.cell c.in-Some.at c.is_on_sheet.ensures c.in-Some.ensures.some) in
     omega (arith, most, w)
 
 pub overflow_cast-at : goal.overflow_cast-at
@@ -70,13 +71,16 @@ invariant_of-self c =
     let mid = above gone c.set.new.self in
     let new = above gone c.set-in-Some-pop.new.self in
     let last = c.in-Some-pop.last in
-    let ok = subst (AreNumbered old) c.in-Some-pop.ensures.items c.self.invariant.1 in
+    let ok = subst (AreNumbered old) c.in-Some-pop.ensures.items c.self.invariant.1.0 in
     let moved = moved_over gone c.in-Some.at c.self.inside.table c.set.new.self last c.set.ensures in
     let taken = above_set gone 0 0 c.set.new.self c.set-in-Some-pop.new.self c.args.cell
     (omega arith) c.set-in-Some-pop.ensures in (
       c.self.invariant.0,
-      removed old mid new c.pop.new.self.items c.in-Some.at c.args.cell last ok c.is_on_sheet.ensures
-          c.in-Some.ensures.some moved taken,
+      (
+        removed old mid new c.pop.new.self.items c.in-Some.at c.args.cell last ok c.is_on_sheet.ensures
+            c.in-Some.ensures.some moved taken,
+        inl c.clear.ensures.items,
+      ),
     )
 
 pub returns-then-at-len : goal.returns-then-at-len
@@ -86,7 +90,7 @@ returns-then-at-len c = λ d.
     let mid = above gone c.set.new.self in
     let new = above gone c.set-in-Some-pop.new.self in
     let last = c.in-Some-pop.last in
-    let ok = subst (AreNumbered old) c.in-Some-pop.ensures.items c.self.invariant.1 in
+    let ok = subst (AreNumbered old) c.in-Some-pop.ensures.items c.self.invariant.1.0 in
     let moved = moved_over gone c.in-Some.at c.self.inside.table c.set.new.self last c.set.ensures in
     let taken = above_set gone 0 0 c.set.new.self c.set-in-Some-pop.new.self c.args.cell
     (omega arith) c.set-in-Some-pop.ensures in
@@ -107,14 +111,17 @@ invariant_of-self-else-at-len c =
     let e = c.len.ensures in
     let long = c.pop.new.self.ok.0 in
     let past : length rest ≤ c.in-Some.at = omega (arith, h, e, long) in
-    let ok = subst (AreNumbered old) c.in-Some-pop.ensures.items c.self.invariant.1 in
+    let ok = subst (AreNumbered old) c.in-Some-pop.ensures.items c.self.invariant.1.0 in
     let moved = moved_over gone c.in-Some.at c.self.inside.table c.set.new.self last c.set.ensures in
     let taken = above_set gone 0 0 c.set.new.self c.set-in-Some-pop.new.self c.args.cell
     (omega arith) c.set-in-Some-pop.ensures in (
       c.self.invariant.0,
-      subst (AreNumbered new) (set_past rest c.in-Some.at last past)
-          (removed old mid new rest c.in-Some.at c.args.cell last ok c.is_on_sheet.ensures c.in-Some.ensures.some
-          moved taken),
+      (
+        subst (AreNumbered new) (set_past rest c.in-Some.at last past)
+            (removed old mid new rest c.in-Some.at c.args.cell last ok c.is_on_sheet.ensures c.in-Some.ensures.some
+            moved taken),
+        inl c.clear.ensures.items,
+      ),
     )
 
 pub returns-else-at-len : goal.returns-else-at-len
@@ -129,7 +136,7 @@ returns-else-at-len c = λ d.
     let e = c.len.ensures in
     let long = c.pop.new.self.ok.0 in
     let past : length rest ≤ c.in-Some.at = omega (arith, h, e, long) in
-    let ok = subst (AreNumbered old) c.in-Some-pop.ensures.items c.self.invariant.1 in
+    let ok = subst (AreNumbered old) c.in-Some-pop.ensures.items c.self.invariant.1.0 in
     let moved = moved_over gone c.in-Some.at c.self.inside.table c.set.new.self last c.set.ensures in
     let taken = above_set gone 0 0 c.set.new.self c.set-in-Some-pop.new.self c.args.cell
     (omega arith) c.set-in-Some-pop.ensures in
