@@ -1,23 +1,23 @@
 -- Runs of cells that are noted at once, and the set of cells that follows.
 use Rattle.std.specs.Prelude.{◌≡◌, ◌<◌, ◌≤◌, ◌+◌, ◌++◌, ◌||◌, ℕ, zero, suc, get_or, length, take, Bool, true, false}
-use Rattle.std.specs.Prelude.{cond, refl, if◌then◌else◌, List, [], ◌∷◌, Option}
+use Rattle.std.specs.Prelude.{refl, if◌then◌else◌, List, [], ◌∷◌, Option}
 use Rattle.std.specs.FinMap.{get}
-use Rattle.std.specs.List.{AllByRecursion, IsDistinct}
+use Rattle.std.specs.List.{IsDistinct}
 use Rattle.std.proofs.Common.{ap, arith, sym, subst, ◌∙◌, inl, inr}
-use Rattle.std.proofs.lemmas.Bool.{cases_Bool, false_from_ne_true, false≢true, or_cases}
-use Rattle.std.proofs.lemmas.List.{take_all, take_more}
+use Rattle.std.proofs.lemmas.Bool.{cases_Bool, false_from_ne_true, false≢true, or_cases, or_left, or_right}
+use Rattle.std.proofs.lemmas.List.{append_assoc, length-take, take-append-le, take_all, take_more}
 use Rattle.std.proofs.lemmas.List.Folds.{list_any-append}
 use Rattle.std.proofs.lemmas.Map.Keys.{IsDistinct-push}
 use Rattle.std.proofs.Math.Seq.{take-append_seam, take-length}
 use Rattle.cell_maps.proofs.Sets.{fresh}
 use Rattle.cell_maps.specs.Sets.{has, insert_key}
-use Rattle.grid_address.proofs.Places.{same_place_is, same_place_laws, same_places}
+use Rattle.grid_address.proofs.Places.{same_place_is, same_place_itself, same_place_laws}
 use Rattle.grid_address.specs.Place.{same_place, Place}
 use Rattle.sheet_store.specs.Grid.{Cells}
 use Rattle.sheet_store.specs.State.{CellState}
-use Rattle.edit_log.proofs.Changed.{get_changed}
-use Rattle.edit_log.specs.Changes.{all_changed, cells_of, changed_at, AreOnce}
-use Rattle.edit_log.specs.inner.Runs.{held_of, rank, AreListed}
+use Rattle.edit_log.proofs.Changed.{cells_and, same_put}
+use Rattle.edit_log.specs.Changes.{all_changed, cells_of, is_noted, AreOnce}
+use Rattle.edit_log.specs.inner.Runs.{rank, AreListed}
 
 -- no cell of none comes twice
 pub none_twice : IsDistinct same_place []
@@ -54,58 +54,75 @@ module _ (cells : List Place) (i : ℕ) (x : Place) (is : x ≡ get_or cells i x
         ]
       ]
 
--- a cell that gets what it has changes nothing
-same_at : (m : Cells) (c : Place) → changed_at m c (get m c) ≡ m
-same_at m c = same_places (changed_at m c (get m c)) m (λ q. get_changed m c (get m c) q
-    ∙ elim (cases_Bool (same_place q c)) [
-      | inl t ↦ ap (λ b. cond b (get m c) (get m q)) t ∙ ap (get m) (sym (same_place_is q c t))
-      | inr f ↦ ap (λ b. cond b (get m c) (get m q)) f
-    ])
+-- a cell that stands among others is one of them
+among : (cells : List Place) (i : ℕ) (x : Place) → x ≡ get_or cells i x → i < length cells →
+    has same_place cells x ≡ true
+among [] i x is lt = absurd (omega (arith, lt))
+among (c ∷ cs) zero x is lt = or_left _ _ (subst (λ (y : Place). same_place x y ≡ true) is (same_place_itself x))
+among (c ∷ cs) (suc i) x is lt = or_right _ _ (among cs i x is (omega (arith, lt)))
 
--- so do cells that get what they have
-pub all_held : (m : Cells) (cs : List Place) → all_changed m (held_of m cs) ≡ m
-all_held m [] = refl
-all_held m (c ∷ cs) = ap (λ n. all_changed n (held_of m cs)) (same_at m c) ∙ all_held m cs
-
--- the cells of what a map has at cells
-pub cells_held : (m : Cells) (cs : List Place) → cells_of (held_of m cs) ≡ cs
-cells_held m [] = refl
-cells_held m (c ∷ cs) = ap (λ l. c ∷ l) (cells_held m cs)
-
--- what it has at one cell more
-held_and : (m : Cells) (cs : List Place) (c : Place) → held_of m (cs ++ c ∷ []) ≡ held_of m cs ++ (c, get m c) ∷ []
-held_and m [] c = refl
-held_and m (d ∷ cs) c = ap (λ l. (d, get m d) ∷ l) (held_and m cs c)
-
--- one more cell is noted
-pub held_more : (m : Cells) (cells : List Place) (i : ℕ) (x : Place) → x ≡ get_or cells i x → i < length cells →
-    (old new : List (Place × Option CellState)) (e : Place × Option CellState) → old ≡ held_of m (take i cells) →
-    e ≡ (x, get m x) → new ≡ old ++ e ∷ [] → new ≡ held_of m (take (i + 1) cells)
-held_more m cells i x is lt old new e front has_it more =
-    more ∙ ap (λ l. l ++ e ∷ []) front ∙ ap (λ y. held_of m (take i cells) ++ y ∷ []) has_it
-    ∙ sym (held_and m (take i cells) x) ∙ ap (held_of m) (sym (front_more cells i x is lt))
-
--- what is noted of a run changes nothing
-pub run_before : (m : Cells) (cs : List Place) (es : List (Place × Option CellState)) → es ≡ held_of m cs →
-    all_changed m es ≡ m
-run_before m cs es is = ap (all_changed m) is ∙ all_held m cs
-
--- and no cell of it comes twice
-pub run_once : (m : Cells) (cs : List Place) (es : List (Place × Option CellState)) → es ≡ held_of m cs →
-    IsDistinct same_place cs → AreOnce es
-run_once m cs es is d = subst (IsDistinct same_place) (sym (ap cells_of is ∙ cells_held m cs)) d
-
--- nor of its front
-pub front_once : (cells : List Place) (i : ℕ) → IsDistinct same_place cells → IsDistinct same_place (take i cells)
-unfolding IsDistinct
-front_once cells zero d = tt
-front_once [] (suc i) d = tt
-front_once (c ∷ cs) (suc i) d = (all_front (λ z. same_place c z ≡ false) cs i d.0, front_once cs i d.1)
+-- none of some cells is of one change more
+pub beside_next : (es : List (Place × Option CellState)) (i : ℕ) (e : Place × Option CellState) → e ≡ get_or es i e →
+    i < length es → (cells : List Place) → has same_place cells e.0 ≡ false →
+    ((c : Place) → has same_place cells c ≡ true → is_noted (take i es) c ≡ false) →
+    (c : Place) → has same_place cells c ≡ true → is_noted (take (i + 1) es) c ≡ false
+beside_next es i e is lt cells out before c h =
+    ap (λ l. is_noted l c) (take_more es i e lt ∙ ap (λ (y : Place × Option CellState). take i es ++ y ∷ []) (sym is))
+    ∙ ap (λ l. has same_place l c) (cells_and (take i es) e)
+    ∙ list_any-append (same_place c) (cells_of (take i es)) (e.0 ∷ [])
+    ∙ ap (λ b. b || (same_place c e.0 || false)) (before c h) ∙ ap (λ b. b || false) other
   where
-    all_front : (P : Place → Type 0) (xs : List Place) (n : ℕ) → AllByRecursion P xs → AllByRecursion P (take n xs)
-    all_front P xs zero a = tt
-    all_front P [] (suc n) a = tt
-    all_front P (x ∷ xs) (suc n) a = (a.0, all_front P xs n a.1)
+    other : same_place c e.0 ≡ false
+    other = false_from_ne_true _ (λ t. false≢true (sym out
+        ∙ subst (λ (y : Place). has same_place cells y ≡ true) (same_place_is c e.0 t) h))
+
+-- what is listed stays so where one more change comes, of a cell that isn't noted
+listed_more : (keys : List Place) (es : List (Place × Option CellState)) (e : Place × Option CellState) →
+    is_noted es e.0 ≡ false → AreListed keys es → AreListed keys (es ++ e ∷ [])
+listed_more keys es e out old =
+    let cs = cells_of es in
+    let fits : length keys ≤ length cs =
+    let k = ap length old.first ∙ length-take (length keys) cs in omega (arith, k) in
+    record {
+      first = old.first ∙ sym (take-append-le (length keys) cs (e.0 ∷ []) fits)
+          ∙ ap (take (length keys)) (sym (cells_and es e));
+      once = subst (IsDistinct same_place) (sym (cells_and es e)) (IsDistinct-push same_place_laws cs e.0 old.once out);
+    }
+
+module _ (m : Cells) (before : List (Place × Option CellState)) (cells : List Place) (i : ℕ) (x : Place)
+    (is : x ≡ get_or cells i x) (lt : i < length cells) (once : IsDistinct same_place cells)
+    (beside : (c : Place) → has same_place cells c ≡ true → is_noted before c ≡ false)
+    (old : List (Place × Option CellState)) (front : cells_of old ≡ cells_of before ++ take i cells)
+    (new : List (Place × Option CellState)) (e : Place × Option CellState) (has_it : e ≡ (x, get m x))
+    (more : new ≡ old ++ e ∷ []) where
+  -- the cell of a change more
+  cell_is : e.0 ≡ x
+  cell_is = ap (λ (y : Place × Option CellState). y.0) has_it
+
+  -- the next cell of a run isn't noted
+  unnoted : is_noted old x ≡ false
+  unnoted = ap (λ l. has same_place l x) front
+      ∙ list_any-append (same_place x) (cells_of before) (take i cells)
+      ∙ ap (λ b. b || has same_place (take i cells) x) (beside x (among cells i x is lt)) ∙ fresh cells i x once lt is
+
+  -- what is noted of a run comes behind what was noted
+  pub run_cells : cells_of new ≡ cells_of before ++ take (i + 1) cells
+  run_cells = ap cells_of more ∙ cells_and old e ∙ ap (λ l. l ++ e.0 ∷ []) front
+      ∙ ap (λ y. (cells_of before ++ take i cells) ++ y ∷ []) cell_is
+      ∙ append_assoc (cells_of before) (take i cells) (x ∷ [])
+      ∙ ap (λ l. cells_of before ++ l) (sym (front_more cells i x is lt))
+
+  -- it changes nothing
+  pub run_before : all_changed m old ≡ all_changed m before → all_changed m new ≡ all_changed m before
+  run_before same = ap (all_changed m) more
+      ∙ ap (λ (y : Place × Option CellState). all_changed m (old ++ y ∷ [])) has_it
+      ∙ same_put m old x (get m x) unnoted refl ∙ same
+
+  -- and what was listed still is
+  pub run_listed : ((keys : List Place) → AreListed keys before → AreListed keys old) →
+      (keys : List Place) → AreListed keys before → AreListed keys new
+  run_listed all keys h = subst (AreListed keys) (sym more)
+      (listed_more keys old e (ap (is_noted old) cell_is ∙ unnoted) (all keys h))
 
 -- a front is as long as it is
 front_itself : (i : ℕ) (cs : List Place) → take i cs ≡ take (length (take i cs)) cs

@@ -1,5 +1,5 @@
 // What a cell has, or had.
-ghost use Rattle.std.specs.Prelude.{◌≡◌, None, Some, IfOk, OnErr, OnOk};
+ghost use Rattle.std.specs.Prelude.{◌≡◌, ◌++◌, ◌∷◌, [], None, Some, IfOk, OnErr, OnOk};
 ghost use Rattle.std.specs.FinMap as map;
 ghost use Rattle.sheet_store.specs.Grid.{IsHeld};
 ghost use Rattle.edit_log.specs.Changes.{changed_at, with_changes};
@@ -95,6 +95,33 @@ impl Change {
             }
             None => Ok(Change::gone(cell)),
         }
+    }
+
+    /// Adds a cell with an equal state to that which it has in a store, or with none. Nothing is added where there is
+    /// no memory. A formula whose value is a number is put where it is to lie.
+    #[inline(always)]
+    pub(crate) fn push_at(
+        changes: &mut Vec<Change>,
+        store: &Store,
+        cell: Cell,
+    ) -> Result<(), Memory>
+        ensures ok { OnOk result (changes.new.items ≡ changes.old.items ++ (cell, map.get store.now.cells cell) ∷ []) }
+        ensures err { OnErr result (changes.new.items ≡ changes.old.items) }
+    {
+        store.are_held();
+        if let Some(state) = store.get(cell)
+            && let (ContentRef::Formula(formula), ValueRef::Num(number)) = (
+                state.content(),
+                state.value(),
+            )
+        {
+            let had = Had::Computed(state.format(), formula.copy()?, number);
+            changes.push(Change { cell, had })?;
+            return Ok(());
+        }
+        let change = Change::at(store, cell)?;
+        changes.push(change)?;
+        Ok(())
     }
 
     /// The cell.

@@ -7,7 +7,7 @@ ghost use Rattle.edit_log.specs.Changes.{all_changed, cells_of, is_noted, AreOnc
 ghost use Rattle.edit_log.specs.inner.Runs.{AreListed};
 
 use crate::Change;
-use crate::runs::{is_run, list_all, note_run};
+use crate::runs::{are_beside, is_run, list_all, note_run};
 use cell_maps::CellSet;
 use grid_address::Cell;
 use lics_text::Memory;
@@ -103,6 +103,26 @@ impl EditLog {
         }
         let change = Change::at(store, cell)?;
         add(&mut self.changes, &mut self.cells, change)
+    }
+
+    // Whether it is known that no cell of the set is noted. It is looked for where no more are noted than it has.
+    fn is_before_run(&self, set: &CellSet) -> bool
+        ensures { result ≡ true → (c : Place) → has same_place set.now.keys c ≡ true → is_noted self.now c ≡ false }
+    {
+        self.changes.len() <= set.len() && are_beside(set, self.changes.as_slice())
+    }
+
+    /// Notes the states that the cells of a set have in a store, but for those that are noted. What stood before in the
+    /// store stays what it is, also where there is no memory.
+    pub fn note_set(&mut self, store: &Store, set: &CellSet) -> Result<(), Memory>
+        ensures before { all_changed store.now.cells self.new ≡ all_changed store.now.cells self.old }
+        ensures noted { OnOk result
+            ((c : Place) → has same_place set.now.keys c ≡ true → is_noted self.new c ≡ true) }
+    {
+        if self.is_before_run(set) {
+            return note_run(&mut self.changes, store, set.as_slice());
+        }
+        self.note_all(store, set.as_slice())
     }
 
     /// Notes the states that cells have in a store, but for those that are noted. What stood before in the store stays

@@ -1,8 +1,6 @@
 -- How it is kept which cells are noted.
-use Rattle.std.specs.Prelude.{ℕ, ◌≡◌, ◌+◌, ◌*◌, length, take, List, [], ◌∷◌, Option}
-use Rattle.std.specs.FinMap.{get}
+use Rattle.std.specs.Prelude.{ℕ, ◌≡◌, ◌+◌, ◌*◌, length, take, List, Option}
 use Rattle.grid_address.specs.Place.{Place}
-use Rattle.sheet_store.specs.Grid.{Cells}
 use Rattle.sheet_store.specs.State.{CellState}
 use Rattle.edit_log.specs.Changes.{cells_of, AreOnce}
 
@@ -14,8 +12,3 @@ rank p = p.row * 256 + p.col
 pub record AreListed (keys : List Place) (es : List (Place × Option CellState)) : Type 0 where
   pub first : keys ≡ take (length keys) (cells_of es)
   pub once : AreOnce es
-
--- what a map has at cells
-abbrev pub held_of : Cells → List Place → List (Place × Option CellState)
-held_of m [] = []
-held_of m (c ∷ cs) = (c, get m c) ∷ held_of m cs

@@ -1,48 +1,43 @@
-use Rattle.std.specs.Prelude.{take}
+use Rattle.std.specs.Prelude.{◌++◌, refl, Option}
+use Rattle.std.specs.FinMap.{get}
 use Rattle.std.proofs.Common.{arith, ap, sym, subst, ◌∙◌}
-use Rattle.std.proofs.lemmas.List.{take_all}
-use Rattle.edit_log.proofs.AtOnce.{cells_held, front_once, held_more, none_twice, run_before, run_once}
-use Rattle.edit_log.specs.Changes.{cells_of, AreOnce}
+use Rattle.std.proofs.lemmas.List.{append-nil, take_all}
+use Rattle.grid_address.specs.Place.{Place}
+use Rattle.sheet_store.specs.State.{CellState}
+use Rattle.edit_log.proofs.AtOnce.{run_before, run_cells, run_listed}
+use Rattle.edit_log.specs.Changes.{all_changed, cells_of}
+use Rattle.edit_log.specs.inner.Runs.{AreListed}
 use Rattle.edit_log.proofs.runs.note_run.Goals as goal
 
-pub returns-in_err-reserve-clause-once : goal.returns-in_err-reserve-clause-once
-returns-in_err-reserve-clause-once c = subst AreOnce (sym (c.reserve.ensures.items ∙ c.requires.none)) none_twice
+pub loop-cell-init : goal.loop-cell-init
+loop-cell-init c = record {
+  before = ap (all_changed c.args.store.now.cells) c.reserve.ensures.items;
+  listed = λ keys h. subst (AreListed keys) (sym c.reserve.ensures.items) h;
+  cells = ap cells_of c.reserve.ensures.items ∙ sym (append-nil (cells_of c.args.changes.now.items));
+}
 
 pub loop-cell-preserved : goal.loop-cell-preserved
-loop-cell-preserved c = held_more c.args.store.now.cells c.args.cells.now c.loop-cell.cell-index c.cell-item.result
-    c.cell-item.is c.loop-cell-test.true c.loop-cell.changes.items c.push.new.self.items c.in_ok-change.change
-    c.loop-cell.invariant c.in_ok-change.ensures c.in_ok-push.ensures.items
-
-pub returns-in_err-change-clause-before : goal.returns-in_err-change-clause-before
-returns-in_err-change-clause-before c = run_before c.args.store.now.cells
-    (take c.loop-cell.cell-index c.args.cells.now) c.loop-cell.changes.items c.loop-cell.invariant
-
-pub returns-in_err-change-clause-once : goal.returns-in_err-change-clause-once
-returns-in_err-change-clause-once c = run_once c.args.store.now.cells
-    (take c.loop-cell.cell-index c.args.cells.now) c.loop-cell.changes.items c.loop-cell.invariant
-    (front_once c.args.cells.now c.loop-cell.cell-index c.requires.once)
-
-pub returns-in_err-push-clause-before : goal.returns-in_err-push-clause-before
-returns-in_err-push-clause-before c = run_before c.args.store.now.cells
-    (take c.loop-cell.cell-index c.args.cells.now) c.push.new.self.items
-    (c.in_err-push.ensures.items ∙ c.loop-cell.invariant)
-
-pub returns-in_err-push-clause-once : goal.returns-in_err-push-clause-once
-returns-in_err-push-clause-once c = run_once c.args.store.now.cells
-    (take c.loop-cell.cell-index c.args.cells.now) c.push.new.self.items
-    (c.in_err-push.ensures.items ∙ c.loop-cell.invariant)
-    (front_once c.args.cells.now c.loop-cell.cell-index c.requires.once)
-
-pub returns-clause-before : goal.returns-clause-before
-returns-clause-before c = run_before c.args.store.now.cells
-    (take c.loop-cell.cell-index c.args.cells.now) c.loop-cell.changes.items c.loop-cell.invariant
-
-pub returns-clause-once : goal.returns-clause-once
-returns-clause-once c = run_once c.args.store.now.cells
-    (take c.loop-cell.cell-index c.args.cells.now) c.loop-cell.changes.items c.loop-cell.invariant
-    (front_once c.args.cells.now c.loop-cell.cell-index c.requires.once)
+loop-cell-preserved c =
+    let m = c.args.store.now.cells in
+    let before = c.args.changes.now.items in
+    let cells = c.args.cells.now in
+    let i = c.loop-cell.cell-index in
+    let x = c.cell-item.result in
+    let lt = c.loop-cell-test.true in
+    let old = c.loop-cell.changes.items in
+    let so_far = c.loop-cell.invariant in
+    let new = c.push_at.new.changes.items in
+    let e : Place × Option CellState = (x, get m x) in
+    let more = c.in_ok-push_at.ensures.ok in
+    record {
+      before = run_before m before cells i x c.cell-item.is lt c.requires.once c.requires.beside old so_far.cells new e
+          refl more so_far.before;
+      listed = run_listed m before cells i x c.cell-item.is lt c.requires.once c.requires.beside old so_far.cells new e
+          refl more so_far.listed;
+      cells = run_cells m before cells i x c.cell-item.is lt c.requires.once c.requires.beside old so_far.cells new e
+          refl more;
+    }
 
 pub returns-clause-noted : goal.returns-clause-noted
-returns-clause-noted c = ap cells_of c.loop-cell.invariant
-    ∙ cells_held c.args.store.now.cells (take c.loop-cell.cell-index c.args.cells.now)
-    ∙ take_all c.loop-cell.cell-index c.args.cells.now (omega (arith, c.loop-cell-test.false))
+returns-clause-noted c = c.loop-cell.invariant.cells ∙ ap (λ l. cells_of c.args.changes.now.items ++ l)
+    (take_all c.loop-cell.cell-index c.args.cells.now (omega (arith, c.loop-cell-test.false)))
