@@ -560,7 +560,7 @@ impl Machine {
                 self.type_byte(byte);
                 Ok(UNTOUCHED)
             }
-            _ => match light_turn_of(key, &self.room, self.end, &self.desk) {
+            _ => match light_turn_of(key, &self.room, self.end) {
                 Some(turn) => {
                     let touched = self.take_lightly(&key, turn);
                     Ok(Taken {

@@ -1,6 +1,6 @@
 // What a key comes to, and what is shown, by what the session is doing.
 ghost use Rattle.std.specs.Prelude.{◌≡◌, IfOk, IfSome, IsOk};
-ghost use Rattle.command_desk.specs.Desks.{of_desk};
+ghost use Rattle.command_desk.specs.Desks.{of_desk, Desk as DeskView};
 ghost use Rattle.room_keys.specs.LightTurns.{whole_turn};
 ghost use Rattle.room_keys.specs.menu.Room as menu;
 ghost use Rattle.screen_layout.specs.Views.{viewed};
@@ -47,11 +47,9 @@ pub(crate) fn turn_of(key: Key, room: Room, end: bool, desk: &Desk) -> Result<Tu
 }
 
 // What a key comes to in READY and in a menu, where that begins no line and no command.
-fn light_pressed(room: &Room, key: Key, end: bool, desk: &Desk) -> Option<LightTurn>
-    ensures { IfSome result (λ x. whole_turn x ≡ pressed room.now key end (of_desk desk.now)) }
+fn light_pressed(room: &Room, key: Key, end: bool) -> Option<LightTurn>
+    ensures { (d : DeskView) → IfSome result (λ x. whole_turn x ≡ pressed room.now key end d) }
 {
-    // The desk is there for the clause.
-    let _sheet = &desk.sheet;
     match room {
         Room::Ready => ready::light_turn(&key, end),
         Room::Menu(room) => menu::light_turn(&key, *room),
@@ -60,12 +58,12 @@ fn light_pressed(room: &Room, key: Key, end: bool, desk: &Desk) -> Option<LightT
 }
 
 /// What a key comes to in READY and in a menu, where that begins no line and no command.
-pub(crate) fn light_turn_of(key: Key, room: &Room, end: bool, desk: &Desk) -> Option<LightTurn>
-    ensures { IfSome result (λ x. whole_turn x ≡ turn_of key room.now end (of_desk desk.now)) }
+pub(crate) fn light_turn_of(key: Key, room: &Room, end: bool) -> Option<LightTurn>
+    ensures { (d : DeskView) → IfSome result (λ x. whole_turn x ≡ turn_of key room.now end d) }
 {
     match key {
         Key::Break => None,
-        _ => light_pressed(room, key, end, desk),
+        _ => light_pressed(room, key, end),
     }
 }
 

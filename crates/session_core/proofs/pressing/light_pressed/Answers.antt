@@ -1,7 +1,5 @@
-use Rattle.command_desk.specs.Desks.{of_desk}
 use Rattle.session_core.proofs.pressing.light_pressed.Goals as goal
 
 -- in READY a key comes to that by any sheet
 pub returns-in-Ready : goal.returns-in-Ready
-returns-in-Ready c =
-    rw c.in-Ready.is (c.light_turn.ensures (of_desk c.args.desk.now).sheet (of_desk c.args.desk.now).ranges)
+returns-in-Ready c = λ d. rw c.in-Ready.is (c.light_turn.ensures d.sheet d.ranges)

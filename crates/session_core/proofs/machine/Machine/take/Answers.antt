@@ -24,6 +24,6 @@ returns-in-Some-clause-ok g c =
     (λ x. whole_turn x ≡ turn_of c.in_default.key of_room c.self-in_default.inside.end desk) =
     subst (λ (r : Option LightTurn). IfSome r
     (λ x. whole_turn x ≡ turn_of c.in_default.key of_room c.self-in_default.inside.end desk))
-    c.in-Some.is c.light_turn_of.ensures in
+    c.in-Some.is (c.light_turn_of.ensures desk) in
     light_over c.in-Some.turn c.args.key c.args.now.now c.args.self.now c.take_lightly-touched.new.self _
     (search (rules, found)) (search rules) (search rules)
