@@ -38,12 +38,13 @@ fn goes(cell: Cell) -> Row
 }
 
 /// BRANCH.
-pub fn branch_row<K: Look>(from: &Source<'_, K>, given: &ReadArguments) -> Row
-    ensures { result ≡ spec.on_place (outlook_from K.Look from.now) (spec.arg given.now 0) spec.goes }
+pub fn branch_row<K: Look>(from: &Source<'_, K>, given: &ReadArguments) -> Result<Row, Memory>
+    ensures { IfOk result
+        (λ r. r ≡ spec.on_place (outlook_from K.Look from.now) (spec.arg given.now 0) spec.goes) }
 {
     match given.place(0, from.look.names()) {
-        Some(cell) => goes(cell),
-        None => bad(),
+        Some(cell) => Ok(goes(cell)),
+        None => Ok(bad()),
     }
 }
 

@@ -71,7 +71,7 @@ fn command_row<K: Look>(
         IfOk result (λ r. r ≡ spec.command_row outlook from.now.global.0 running.now at.now command given.now) }
 {
     match command {
-        Command::Branch => Ok(branch_row(from, given)),
+        Command::Branch => branch_row(from, given),
         Command::Dispatch => Ok(dispatch_row(from, given.list())),
         Command::Define => define_row(from, running, at, given.list()),
         Command::Return => return_row(from, running),
@@ -129,7 +129,7 @@ fn counted_row<K: Look>(
         return Ok(bad());
     }
     match command {
-        Command::Branch => Ok(branch_row(from, args)),
+        Command::Branch => branch_row(from, args),
         Command::If => if_row(from, at, args),
         Command::Let => let_row(from, at, args),
         _ => command_row(from, running, at, command, args),

@@ -19,6 +19,7 @@ use sheet_store::Writes;
 use std::alloc::Global;
 
 // The write of one content.
+#[inline(always)]
 fn one_write(alloc: Global, cell: Cell, content: Content) -> Result<Writes, Memory>
     ensures { IfOk result (λ w. w ≡ written cell content ∷ []) }
 {
@@ -28,6 +29,7 @@ fn one_write(alloc: Global, cell: Cell, content: Content) -> Result<Writes, Memo
 }
 
 /// The write that puts a value into a cell: a text as a label with `'`, ERR and NA as formulas.
+#[inline(always)]
 pub fn value_write(alloc: Global, cell: Cell, value: &Value) -> Result<Writes, Memory>
     ensures { IfOk result (λ w. w ≡ written cell (as_content value.now) ∷ []) }
 {
@@ -117,6 +119,7 @@ pub struct ReadText<'a> {
 }
 
 // The value of a formula; behind `:string`, or where it is none, the bytes.
+#[inline(always)]
 fn typed_value<K: Look>(from: &Source<'_, K>, read: &ReadText<'_>) -> Result<Value, Memory>
     requires text { IsText read.now.text.now }
     requires formula { IfSome read.now.formula (λ f. IsRead read.now.at read.now.text.now f.now) }
@@ -137,6 +140,7 @@ fn typed_value<K: Look>(from: &Source<'_, K>, read: &ReadText<'_>) -> Result<Val
 }
 
 /// What LET puts: an ending `:value` is dropped first; behind it `:string`, or no formula, gives the bytes.
+#[inline(always)]
 pub fn let_value<K: Look>(from: &Source<'_, K>, read: &ReadText<'_>) -> Result<Value, Memory>
     requires text { IsText read.now.text.now }
     requires formula { IfSome read.now.formula (λ f. IsRead read.now.at read.now.text.now f.now) }
