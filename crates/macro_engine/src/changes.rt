@@ -61,6 +61,7 @@ fn settled(
 }
 
 // Contents are written. The rows become those that are changed, where they are told.
+#[inline(always)]
 fn write(
     writes: &Writes,
     sheet: &mut Worksheet,

@@ -166,16 +166,20 @@ impl Engine {
         ensures running { self.new ≡ left_by outcome self.old }
     {
         match outcome {
-            Ok(Outcome {
-                end: StepEnd::Works,
-                goes_on: true,
-                ..
-            }) => Ok(StepEnd::Works),
-            Ok(Outcome {
-                end: StepEnd::Moves,
-                goes_on: true,
-                ..
-            }) => Ok(StepEnd::Moves),
+            Ok(
+                Outcome {
+                    end: StepEnd::Works,
+                    goes_on: true,
+                    ..
+                },
+            ) => Ok(StepEnd::Works),
+            Ok(
+                Outcome {
+                    end: StepEnd::Moves,
+                    goes_on: true,
+                    ..
+                },
+            ) => Ok(StepEnd::Moves),
             Ok(Outcome { end, goes_on, .. }) => {
                 if !goes_on {
                     self.stop();

@@ -17,6 +17,7 @@ use work_sheet::Worksheet;
 
 // Adds the letters of a column, with half of the free bytes on their left.
 #[tactic(auto, using(std::proofs::lemmas::List::take_min))]
+#[inline(never)]
 fn add_head(line: &mut PaintedLine, col: u8, width: u8)
     requires { width ≤ MOST_WIDTH }
     ensures line { line.new ≡ take 80 (line.old ++ padded width (head_text col width)) }

@@ -211,6 +211,7 @@ fn is_menu(mode: Mode) -> bool
 }
 
 /// The menu's items, or the line that is typed.
+#[inline(never)]
 pub fn entry_line(panel: &PanelView) -> [u8; 80]
     ensures { result ≡ shown_line (entry_line (viewed panel.now)) }
 {
@@ -222,6 +223,7 @@ pub fn entry_line(panel: &PanelView) -> [u8; 80]
 }
 
 /// What the highlighted item leads to.
+#[inline(never)]
 pub fn below_line(panel: &PanelView) -> [u8; 80]
     ensures { result ≡ shown_line (below_line (viewed panel.now)) }
 {

@@ -99,6 +99,7 @@ pub fn wants_recalculation(sheet: &Worksheet) -> bool
 }
 
 /// The last line: the moment or in ERROR the message, and CALC, CIRC, END and CMD.
+#[inline(never)]
 pub fn foot_line(sheet: &Worksheet, panel: &PanelView, now: &Moment) -> [u8; 80]
     ensures { result ≡ shown_line (foot_line (of_worksheet sheet.now) (viewed panel.now) now.now.day now.now.second) }
 {

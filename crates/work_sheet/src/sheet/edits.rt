@@ -196,6 +196,7 @@ impl<E: Means> WorksheetOf<E> {
 
     /// Makes the writes in their order. One without a format leaves its cell's format. `Protected` names the first cell
     /// in row order that is protected; the sheet is unchanged where the edit is refused.
+    #[inline(always)]
     pub fn write(&mut self, writes: &Writes) -> Result<(), SheetFault>
         ensures answer { IsAnswered self.old.settings self.old.grid (has same_place (written_cells writes.now)) result }
         ensures did { OnOk result (DidEdit (all_written writes.now) self.old self.new) }
@@ -210,6 +211,7 @@ impl<E: Means> WorksheetOf<E> {
     }
 
     // Makes the writes in their order.
+    #[inline(never)]
     fn write_many(&mut self, writes: &Writes) -> Result<(), SheetFault>
         ensures answer { IsAnswered self.old.settings self.old.grid (has same_place (written_cells writes.now)) result }
         ensures did { OnOk result (DidEdit (all_written writes.now) self.old self.new) }
