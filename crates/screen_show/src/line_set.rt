@@ -36,6 +36,13 @@ impl LineSet {
         LineSet { bits: ALL }
     }
 
+    /// Whether every line is in the set.
+    pub fn holds_all(&self) -> bool
+        ensures { result ≡ true → self.now ≡ replicate 25 true }
+    {
+        self.bits == ALL
+    }
+
     /// Adds a line, of the lines 0 to 24.
     pub fn insert(&mut self, row: u8)
         requires { row ≤ 24 }
