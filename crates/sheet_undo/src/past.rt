@@ -17,6 +17,7 @@ use crate::alike::{
 use crate::changes::{CellChanges, change_store, changes_of};
 use crate::columns::{KeptColumns, columns_of};
 use crate::difference::Difference;
+use cell_maps::CellSet;
 use edit_log::EditLog;
 use grid_address::Cell;
 use lics_text::Memory;
@@ -147,6 +148,20 @@ impl Past {
             return Ok(());
         }
         self.log.note_all(store, cells)?;
+        Ok(())
+    }
+
+    /// Notes the states of the cells of a set, which may then change. The history stays, also where there is no memory.
+    pub fn note_set(&mut self, store: &Store, set: &CellSet) -> Result<(), Memory>
+        ensures free { OnOk result
+            ((g : Grid) (names : NameMap) → IsSameBut (has same_place set.now.keys) store.now g →
+            history_of self.new g names ≡ history_of self.old store.now names) }
+        ensures same { (names : NameMap) → history_of self.new store.now names ≡ history_of self.old store.now names }
+    {
+        if self.is_idle() || self.whole.is_some() {
+            return Ok(());
+        }
+        self.log.note_set(store, set)?;
         Ok(())
     }
 

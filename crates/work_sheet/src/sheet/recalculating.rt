@@ -28,7 +28,7 @@ impl<E: Means> WorksheetOf<E> {
         ensures err { OnErr result (self.new ≡ record self.old { grid = self.new.grid }) }
     {
         let settings = self.settings;
-        self.past.note(&self.store, self.dirty.as_slice())?;
+        self.past.note_set(&self.store, &self.dirty)?;
         let context = ContextRef {
             names: &self.names,
             settings: &settings,

@@ -1,10 +1,12 @@
 use Rattle.std.proofs.Common.{ap, rules, ◌∙◌}
+use Rattle.cell_maps.specs.Sets.{has}
+use Rattle.grid_address.specs.Place.{same_place}
 use Rattle.recalculation.specs.Context.{context_of}
 use Rattle.recalculation.specs.Passes.{Meaning}
 use Rattle.recalculation.specs.inner.Meanings.{IsMeaning}
 use Rattle.work_sheet.proofs.Done.{recalculated_did}
 use Rattle.work_sheet.proofs.Held.{kept_after, kept_same}
-use Rattle.work_sheet.proofs.Noted.{listed_changed}
+use Rattle.work_sheet.proofs.Noted.{values_changed}
 use Rattle.work_sheet.specs.Sheets.{Worksheet}
 use Rattle.work_sheet.proofs.sheet.WorksheetOf.calc.Goals as goal
 
@@ -32,7 +34,7 @@ returns-clause-did g c = recalculated_did c.args.self.now _ g.E.Means.meaning c.
     (g.E.Means.count c.args.tally.now) (g.E.Means.count c.recalc.new.tally)
     (search rules) (search rules) (search rules) (search rules) (search rules) (search rules) (search rules)
     (search rules)
-    (c.in_ok-note.ensures.free c.recalc.new.store c.self.inside.names
-    (listed_changed c.as_slice.result.now c.self.inside.dirty.keys c.self.inside.store c.recalc.new.store
-    c.as_slice.ensures.keys c.recalc.ensures.contents c.recalc.ensures.outside)
+    (c.in_ok-note_set.ensures.free c.recalc.new.store c.self.inside.names
+    (values_changed (has same_place c.self.inside.dirty.keys) c.self.inside.store c.recalc.new.store
+    c.recalc.ensures.contents c.recalc.ensures.outside)
     ∙ ap (λ (w : Worksheet). w.history) c.self.view_is)
