@@ -86,10 +86,12 @@ impl<T> CellMap<T> {
         }
     }
 
-    /// Makes room for so many cells more, as far as there is memory. The map stays as it was.
+    /// Makes room for so many cells more, as far as there is memory, and for their numbers where they stand in one
+    /// column. The map stays as it was.
     pub fn reserve(&mut self, more: usize) -> Result<(), AllocError>
         ensures { self.new ≡ self.old }
     {
+        self.table.reserve(more)?;
         self.held.reserve(more)
     }
 

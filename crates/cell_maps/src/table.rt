@@ -17,6 +17,9 @@ const PAGE_COLUMNS: u8 = 4;
 /// How many pages lie side by side.
 const PAGES: usize = 64;
 
+/// How many pages the sheet has.
+const MOST_PAGES: usize = 2_048;
+
 /// How many places a page has.
 const PLACES: usize = 1_024;
 
@@ -105,6 +108,14 @@ impl PlaceTable {
             heads: Vec::new(alloc),
             numbers: Vec::new(alloc),
         }
+    }
+
+    /// Makes room for the numbers of so many cells of one column, as far as there is memory. No number changes.
+    pub(crate) fn reserve(&mut self, more: usize) -> Result<(), AllocError>
+        ensures { self.new ≡ self.old }
+    {
+        let pages = (more / usize::from(PAGE_ROWS) + 1).min(MOST_PAGES);
+        self.numbers.reserve(pages * PLACES)
     }
 
     // Which one of the pages with room a cell's page is, 0 where it has none.
