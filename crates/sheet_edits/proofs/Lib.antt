@@ -4,6 +4,7 @@ pub mod Gathering
 pub mod Listed
 pub mod Overlaid
 pub mod Plain
+pub mod Ranked
 pub mod Reaching
 pub mod Sound
 pub mod Spanned

@@ -3,5 +3,6 @@ pub mod Lines
 pub mod Marks
 pub mod Parts
 pub mod Putting
+pub mod Ranks
 pub mod Settling
 pub mod Undoing

@@ -1,9 +1,10 @@
 // What a list of writes gives its cells.
-ghost use Rattle.std.specs.Prelude.{◌≡◌, ◌++◌, ◌∷◌, [], IfOk, OnOk, None, false, true};
+ghost use Rattle.std.specs.Prelude.{◌≡◌, ◌≤◌, ◌<◌, ◌++◌, ◌∷◌, [], IfOk, OnOk, None, false, true};
 ghost use Rattle.std.specs.FinMap as map;
 ghost use Rattle.grid_address.specs.Place.{same_place, Place};
 ghost use Rattle.recalculation.specs.Context.{format_of};
 ghost use Rattle.sheet_store.specs.Grid.{is_formula, is_kept, IsSound};
+ghost use Rattle.sheet_edits.specs.inner.Ranks.{rank};
 ghost use Rattle.sheet_edits.specs.Spans.{changed, write_state, written_all, written_cells, AreGathered};
 
 use crate::changes::Changes;
@@ -13,10 +14,31 @@ use lics_text::Memory;
 use recalculation::format_of;
 use sheet_store::{CellState, Store, Write, Writes};
 
-// The format that a cell has after the changes.
-fn format_after(store: &Store, changes: &Changes, cell: Cell) -> Format
+// Where a cell stands in row order.
+fn rank_of(cell: Cell) -> u32
+    ensures below { result < 16777216 }
+    ensures rank { result ≡ rank cell }
+{
+    256 * u32::from(cell.row) + u32::from(cell.col)
+}
+
+// The least rank behind this one, and no lower than what was the least before.
+fn behind(least: u32, rank: u32) -> u32
+    requires { rank < 16777216 }
+    ensures least { least ≤ result }
+    ensures rank { rank < result }
+{
+    if rank >= least { rank + 1 } else { least }
+}
+
+// The format that a cell has after the changes. They aren't asked for one that is known not to be among them.
+fn format_after(store: &Store, changes: &Changes, cell: Cell, is_new: bool) -> Format
+    requires { is_new ≡ true → map.get changes.now cell ≡ None }
     ensures { result.0 ≡ format_of (changed (map.get changes.now cell) (map.get store.now.cells cell)) }
 {
+    if is_new {
+        return format_of(store, cell);
+    }
     match changes.get(cell) {
         Some(state) => state.format(),
         None => format_of(store, cell),
@@ -24,7 +46,13 @@ fn format_after(store: &Store, changes: &Changes, cell: Cell) -> Format
 }
 
 // The state that a write gives its cell after the changes.
-fn write_state(store: &Store, changes: &Changes, write: &Write) -> Result<CellState, Memory>
+fn write_state(
+    store: &Store,
+    changes: &Changes,
+    write: &Write,
+    is_new: bool,
+) -> Result<CellState, Memory>
+    requires { is_new ≡ true → map.get changes.now write.now.cell ≡ None }
     ensures { IfOk result
         (λ s. s ≡ write_state write.now
         (changed (map.get changes.now write.now.cell) (map.get store.now.cells write.now.cell))) }
@@ -32,7 +60,7 @@ fn write_state(store: &Store, changes: &Changes, write: &Write) -> Result<CellSt
     let content = write.content.copy()?;
     let format = match write.format {
         Some(format) => format,
-        None => format_after(store, changes, write.cell),
+        None => format_after(store, changes, write.cell, is_new),
     };
     first_state(store.alloc(), content, format)
 }
@@ -51,20 +79,22 @@ pub fn state_written(store: &Store, write: &Write) -> Result<CellState, Memory>
     first_state(store.alloc(), content, format)
 }
 
-// One more write.
+// One more write, whose cell may be known not to be among the changes.
 fn gather(
     store: &Store,
     write: &Write,
     cells: &mut CellList,
     changes: &mut Changes,
+    is_new: bool,
 ) -> Result<(), Memory>
+    requires { is_new ≡ true → map.get changes.old write.now.cell ≡ None }
     ensures cells { OnOk result (cells.new ≡ cells.old ++ write.now.cell ∷ []) }
     ensures changes { OnOk result
         (changes.new ≡ map.insert changes.old write.now.cell
         (write_state write.now
         (changed (map.get changes.old write.now.cell) (map.get store.now.cells write.now.cell)))) }
 {
-    let state = write_state(store, changes, write)?;
+    let state = write_state(store, changes, write, is_new)?;
     changes.set(write.cell, state)?;
     cells.push(write.cell)?;
     Ok(())
@@ -82,9 +112,13 @@ pub fn gathered(
     ensures { OnOk result (AreGathered store.now writes.now cells.new changes.new) }
 {
     changes.reserve(writes.len())?;
+    // No cell that was met has this rank or a higher one.
+    let mut least = 0;
     for place in 0..writes.len() {
         if let Some(write) = writes.get(place) {
-            gather(store, write, cells, changes)?;
+            let rank = rank_of(write.cell);
+            gather(store, write, cells, changes, rank >= least)?;
+            least = behind(least, rank);
         }
     }
     Ok(())
