@@ -198,6 +198,17 @@ impl Kept {
         }
     }
 
+    /// Whether something hangs on the value of a cell.
+    pub fn hangs_on(&self, cell: Cell) -> bool
+        ensures { result ≡ false → (values others : Place → Value) → IsKept self.now values →
+            ((c : Place) → same_place c cell ≡ false → others c ≡ values c) → IsKept self.now others }
+    {
+        match &self.findings {
+            Some(findings) => findings.hang_on(cell),
+            None => false,
+        }
+    }
+
     /// A cell that was blank takes a value that counts for a number. The totals of the ranges in which it lies go on
     /// with it.
     pub fn fill(&mut self, cell: Cell, number: Fixed)

@@ -149,6 +149,7 @@ fn add_cell<K: Look>(total: &mut Total, cell: Cell, look: &K) -> bool
 }
 
 // Adds the cells of a row of a range.
+#[inline(always)]
 fn add_row<K: Look>(total: &mut Total, span: Span, row: u16, look: &K) -> bool
     requires { row < height_of span }
     ensures { let cells = row_cells (span.first.row + row) span.first.col (width_of span) in
@@ -163,24 +164,40 @@ fn add_row<K: Look>(total: &mut Total, span: Span, row: u16, look: &K) -> bool
     true
 }
 
-// Whether so many rows of a band hold far fewer numbers than cells. In a narrow range none do: all its cells of a band
-// may be blank.
+// Whether so many rows of a band hold far fewer numbers than cells.
 #[inline(always)]
 fn is_sparse(rows: u16, width: u16, count: usize) -> bool {
-    if usize::from(width) <= MOST_BLANK / usize::from(BAND) {
-        return false;
-    }
     let cells = usize::from(rows) * usize::from(width);
     cells.saturating_sub(MOST_BLANK) / 8 > count
 }
 
-// Adds the cells of a range from a row on up to another; false also where few of them are filled.
+// Adds the cells of a narrow range from a row on up to another, however few of them are filled.
+#[inline(always)]
+fn add_narrow<K: Look>(total: &mut Total, span: Span, from: u16, to: u16, look: &K) -> bool
+    requires rows { from ≤ to }
+    requires inside { to ≤ height_of span }
+    ensures { let so_far = so_far (K.sight look.now).values span in
+        result ≡ true → IsTotal total.old (so_far from) → IsTotal total.new (so_far to) }
+{
+    for row in from..to {
+        if !add_row(total, span, row, look) {
+            return false;
+        }
+    }
+    true
+}
+
+// Adds the cells of a range from a row on up to another; false also where few of them are filled. A narrow range's
+// cells of a band may all be blank.
 fn add_rows<K: Look>(total: &mut Total, span: Span, from: u16, to: u16, look: &K) -> bool
     requires rows { from ≤ to }
     requires inside { to ≤ height_of span }
     ensures { let so_far = so_far (K.sight look.now).values span in
         result ≡ true → IsTotal total.old (so_far from) → IsTotal total.new (so_far to) }
 {
+    if usize::from(span.width()) <= MOST_BLANK / usize::from(BAND) {
+        return add_narrow(total, span, from, to, look);
+    }
     for row in from..to {
         if is_sparse(row - from, span.width(), total.count) || !add_row(total, span, row, look) {
             return false;

@@ -375,9 +375,12 @@ fn tell(kept: &mut Kept, cells: &CellMap<CellState>, cell: Cell, state: &CellSta
 fn tell_change(kept: &mut Kept, cells: &CellMap<CellState>, cell: Cell, state: &CellState)
     ensures { GoesOn kept.old kept.new cells.now cell state.now.value }
 {
+    if !kept.hangs_on(cell) {
+        return;
+    }
     match counted(state) {
         Some(number) => tell_number(kept, cells, cell, number),
-        None => kept.forget(cell),
+        None => let_all_go(kept),
     }
 }
 
@@ -386,7 +389,7 @@ fn tell_number(kept: &mut Kept, cells: &CellMap<CellState>, cell: Cell, number: 
     ensures { GoesOnWith kept.old kept.new cells.now cell number }
 {
     if !is_blank_in(cells, cell) {
-        kept.forget(cell);
+        let_all_go(kept);
         return;
     }
     kept.fill(cell, number);

@@ -3,7 +3,7 @@ use Rattle.sheet_store.proofs.store.tell_number.Goals as goal
 
 pub returns-then-not-is_blank_in : goal.returns-then-not-is_blank_in
 returns-then-not-is_blank_in c = λ others is takes same.
-    c.forget.ensures (value_in c.args.cells.now) others is same
+    c.let_all_go.ensures others
 
 pub returns : goal.returns
 returns c = λ others is takes same.
