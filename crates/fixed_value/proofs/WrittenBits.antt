@@ -22,8 +22,21 @@ raised n k h =
     let more : n * 2 ^ (k + 1) ≡ n * (2 * 2 ^ k) = ap (λ p. n * p) (two_more k) in
     omega (arith, more, h)
 
+-- a power of two of something is something
+positive : (m s : ℕ) → 1 ≤ m → 1 ≤ m * 2 ^ s
+positive m s h =
+    let power : 2 ^ 0 ≤ 2 ^ s = pow-le-pow_right {n = 2} (omega arith) {i = 0} {j = s} (omega arith) in
+    let more : ℕ = m - 1 in
+    let split : m * 2 ^ s ≡ (1 + more) * 2 ^ s = ap (λ k. k * 2 ^ s) (let is : m ≡ 1 + more = omega (arith, h) in is) in
+    let parts : (1 + more) * 2 ^ s ≡ 2 ^ s + more * 2 ^ s = omega arith in
+    omega (arith, power, split, parts)
+
+-- one more power of two is twice as much
+raised_twice : (n k : ℕ) → n * 2 ^ (k + 1) ≡ 2 * (n * 2 ^ k)
+raised_twice n k = ap (λ p. n * p) (two_more k) ∙ omega arith
+
 -- a size below a power of two, raised as far as to 2 ^ 72
-pub raised_below : (n k s : ℕ) → n < 2 * 2 ^ k → k + s ≡ 71 → n * 2 ^ s < 9007199254740992000000
+pub raised_below : (n k s : ℕ) → n < 2 * 2 ^ k → k + s ≡ 71 → n * 2 ^ s < 4722366482869645213696
 raised_below n k s h e =
     let more : ℕ = 2 * 2 ^ k - n in
     let power : 2 ^ k * 2 ^ s ≡ 2361183241434822606848 = sym (pow-add 2 k s) ∙ ap (λ m. 2 ^ m) e in
@@ -31,7 +44,35 @@ raised_below n k s h e =
     let all : 2 * 2 ^ k * 2 ^ s ≡ (n + more) * 2 ^ s = ap (λ m. m * 2 ^ s) split in
     let twice : 2 * 2 ^ k * 2 ^ s ≡ 2 * (2 ^ k * 2 ^ s) = omega arith in
     let parts : (n + more) * 2 ^ s ≡ n * 2 ^ s + more * 2 ^ s = omega arith in
-    omega (arith, power, all, twice, parts)
+    let some : 1 ≤ more * 2 ^ s = positive more s (omega (arith, h)) in
+    omega (arith, power, all, twice, parts, some)
+
+-- a size of at least a power of two, raised as far as to 2 ^ 71
+pub raised_least : (n k s : ℕ) → 2 ^ k ≤ n → k + s ≡ 71 → 2361183241434822606848 ≤ n * 2 ^ s
+raised_least n k s h e =
+    let more : ℕ = n - 2 ^ k in
+    let power : 2 ^ k * 2 ^ s ≡ 2361183241434822606848 = sym (pow-add 2 k s) ∙ ap (λ m. 2 ^ m) e in
+    let split : n ≡ 2 ^ k + more = omega (arith, h) in
+    let all : n * 2 ^ s ≡ (2 ^ k + more) * 2 ^ s = ap (λ m. m * 2 ^ s) split in
+    let parts : (2 ^ k + more) * 2 ^ s ≡ 2 ^ k * 2 ^ s + more * 2 ^ s = omega arith in
+    omega (arith, power, all, parts)
+
+-- the highest bit of a size
+pub highest_in : (n k : ℕ) → 2 ^ k ≤ n → n ≤ 999999999999999 → k ≤ 49
+highest_in n k h most = elim (cases_Bool (nat_le k 49)) [
+  | inl few ↦ grind (arith, nat_tests, few)
+  | inr many ↦
+      (let far : 50 ≤ k = grind (arith, nat_tests, many) in
+      let large : 2 ^ 50 ≤ 2 ^ k = pow-le-pow_right {n = 2} (omega arith) {i = 50} {j = k} far in
+      absurd (omega (arith, h, most, large)))
+]
+
+-- a count that is shifted in 128 bits, and doubled
+pub shifted_twice : (n m s : ℕ) → m ≡ n → n * 2 ^ s < 4722366482869645213696
+    → 2 * (m * 2 ^ s % 340282366920938463463374607431768211456) ≡ n * 2 ^ (s + 1)
+shifted_twice n m s same below =
+    let count : m * 2 ^ s ≡ n * 2 ^ s = ap (λ k. k * 2 ^ s) same in
+    omega (arith, count, below, raised_twice n s)
 
 -- the unit of a double that isn't as far below
 pub unit_small : (k : ℕ) → k ≤ 73 → 2 ^ k ≤ 2 ^ 73

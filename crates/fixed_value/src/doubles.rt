@@ -75,30 +75,34 @@ pub fn from_double_bits(bits: u64) -> DoubleRead
     }
 }
 
-// By how many powers of two a size in millionths is raised to have 53 bits, or one less, by its highest bit alone.
+// By how many powers of two a size is raised to have 72 bits.
 fn scale_below(size: u64) -> u32
     requires least { 1 ≤ size }
     requires most { size ≤ 999999999999999 }
-    ensures in_range { (23 ≤ result) × (result ≤ 72) }
-    ensures below { size * 2 ^ result < 9007199254740992 * 1000000 }
+    ensures in_range { (22 ≤ result) × (result ≤ 71) }
+    ensures least { 2361183241434822606848 ≤ size * 2 ^ result }
+    ensures below { size * 2 ^ result < 4722366482869645213696 }
 {
     let highest = size.ilog2();
-    if highest < 48 { 71 - highest } else { 23 }
+    71 - highest
 }
 
-// By how many powers of two a size in millionths is raised to have 53 bits.
-fn scale_of(size: u64) -> u32
+// By how many powers of two a size in millionths is raised to have 53 bits, and the size so raised.
+fn scale_of(size: u64) -> (u32, u128)
     requires least { 1 ≤ size }
     requires most { size ≤ 999999999999999 }
-    ensures in_range { (23 ≤ result) × (result ≤ 72) }
-    ensures least { 4503599627370496 * 1000000 ≤ size * 2 ^ result }
-    ensures below { size * 2 ^ result < 9007199254740992 * 1000000 }
+    ensures in_range { (23 ≤ result.0) × (result.0 ≤ 72) }
+    ensures value { result.1 ≡ size * 2 ^ result.0 }
+    ensures least { 4503599627370496 * 1000000 ≤ result.1 }
+    ensures below { result.1 < 9007199254740992 * 1000000 }
 {
-    let mut scale = scale_below(size);
-    while scale < 72 && (u128::from(size) << scale) < 4_503_599_627_370_496_000_000 {
-        scale += 1;
+    let scale = scale_below(size);
+    let count = u128::from(size) << scale;
+    if count < 4_503_599_627_370_496_000_000 {
+        (scale + 1, 2 * count)
+    } else {
+        (scale, count)
     }
-    scale
 }
 
 // A count of millionths to the nearest whole number, and at the same distance to the even one.
@@ -109,11 +113,12 @@ fn nearest_even(count: u128) -> u64
     ensures least { 4503599627370496 ≤ result }
     ensures most { result ≤ 9007199254740992 }
 {
-    let whole = count / 1_000_000;
-    if 2 * (count % 1_000_000) + whole % 2 > 1_000_000 {
-        (whole + 1) as u64
+    let whole = (count / 1_000_000) as u64;
+    let rest = (count % 1_000_000) as u64;
+    if 2 * rest + whole % 2 > 1_000_000 {
+        whole + 1
     } else {
-        whole as u64
+        whole
     }
 }
 
@@ -131,8 +136,8 @@ fn written_bits(value: Fixed) -> u64
     ensures { IsWritten value result }
 {
     let size = value.millionths().unsigned_abs();
-    let scale = scale_of(size);
-    let mantissa = nearest_even(u128::from(size) << scale);
+    let (scale, count) = scale_of(size);
+    let mantissa = nearest_even(count);
     sign_bit(value) + (u64::from(1075 - scale) * FRACTIONS + (mantissa - FRACTIONS))
 }
 

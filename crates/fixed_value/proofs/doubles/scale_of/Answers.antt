@@ -1,10 +1,7 @@
-use Rattle.std.proofs.Common.{arith, rules}
-use Rattle.fixed_value.proofs.WrittenBits.{raised}
+use Rattle.fixed_value.proofs.WrittenBits.{shifted_twice}
 use Rattle.fixed_value.proofs.doubles.scale_of.Goals as goal
 
-pub loop-scale-preserved : goal.loop-scale-preserved
-loop-scale-preserved c = record {
-  from = omega arith;
-  upto = omega arith;
-  below = raised c.args.size c.loop-scale.scale (search rules);
-}
+pub returns-then-count-lt4503599627370496000000-clause-value :
+    goal.returns-then-count-lt4503599627370496000000-clause-value
+returns-then-count-lt4503599627370496000000-clause-value c =
+    shifted_twice c.args.size c.from.result c.scale_below-scale.result c.from.ensures c.scale_below-scale.ensures.below
