@@ -206,9 +206,22 @@ fn put_between(
     ensures { OnOk result (into.new.items ≡ into.old.items
         ++ spelled at (postfix (tree_of left.now) ++ (postfix (tree_of right.now) ++ operator op ∷ []))) }
 {
-    put_tree(left, at, into)?;
-    put_tree(right, at, into)?;
+    put_operand(left, at, into)?;
+    put_operand(right, at, into)?;
     put_byte(op_code(op), into)
+}
+
+// Adds the codes of a tree as `put_tree` does, and those of a reference, which most are, without a call.
+#[cycle(put_tree)]
+#[inline(always)]
+fn put_operand(expr: &Expr, at: Cell, into: &mut Vec<u8>) -> Result<(), Memory>
+    requires { every is_counted (tree_of expr.now) ≡ true }
+    ensures { OnOk result (into.new.items ≡ into.old.items ++ spelled at (postfix (tree_of expr.now))) }
+{
+    match expr {
+        Expr::Cell(place) => put_cell(*place, at, into),
+        _ => put_tree(expr, at, into),
+    }
 }
 
 // Adds the codes of arguments.
