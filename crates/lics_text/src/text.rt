@@ -1,5 +1,5 @@
 ghost use Rattle.std.specs.Char.{to_ascii_lowercase, to_ascii_uppercase};
-ghost use Rattle.std.specs.Prelude.{◌≡◌, ◌≤◌, ◌<◌, map, IfOk, OnErr, IfSome, IfNone, position, nat_lt};
+ghost use Rattle.std.specs.Prelude.{◌≡◌, ◌≤◌, ◌<◌, ◌++◌, ◌∷◌, [], length, map, IfOk, OnErr, IfSome, IfNone, position, nat_lt};
 ghost use Rattle.std.specs.Ordering.{nat_cmp};
 ghost use Rattle.std.specs.Cmp.Lexicographic.{slice_cmp};
 ghost use Rattle.lics_text.specs.Ascii as ascii;
@@ -7,6 +7,7 @@ ghost use Rattle.lics_text.specs.Answer.{Gives};
 ghost use Rattle.lics_text.specs.Texts.{text_of, pushed_text, proper_of, trimmed, IsFirstPlace, IsNoPlace};
 
 use crate::cases::{lower_all, make_proper, raise_all};
+use crate::held::Held;
 use crate::places::first_place;
 use crate::trim::{single_spaced, without_front};
 use crate::{Line, MAX_LEN, Memory, TextFault};
@@ -14,21 +15,24 @@ use std::alloc::Global;
 use std::cmp::Ordering;
 use std::marker::Model;
 
-/// A text: at most 240 bytes, each 32 to 255.
+/// A text: at most 240 bytes, each 32 to 255. It takes 24 bytes, in which up to 22 stand, and a block of its own for
+/// more.
 #[derive(Drop)]
 pub struct Text {
-    bytes: Vec<u8>,
+    alloc: Global,
+    held: Held,
 }
 
 impl Model for Text {
     ghost use Rattle.std.specs.Prelude.{List, ℕ};
     ghost use Rattle.lics_text.specs.Bytes.{IsText};
+    ghost use Rattle.lics_text.specs.inner.Held.{held_bytes};
 
     ghost Value = { List ℕ };
 
-    ghost view = { λ t. t.bytes.items };
+    ghost view = { λ t. held_bytes t.held };
 
-    ghost invariant = { λ t. IsText t.bytes.items };
+    ghost invariant = { λ t. IsText (held_bytes t.held) };
 }
 
 impl Text {
@@ -56,8 +60,8 @@ impl Text {
         requires { IsText bytes.now }
         ensures { IfOk result (λ t. t ≡ bytes.now) }
     {
-        let bytes = Vec::from_slice(alloc, bytes)?;
-        Ok(Text { bytes })
+        let held = Held::of(alloc, bytes)?;
+        Ok(Text { alloc, held })
     }
 
     /// Another text, of bytes that are a text's, in the memory that this one is in.
@@ -65,10 +69,7 @@ impl Text {
         requires { IsText bytes.now }
         ensures { IfOk result (λ t. t ≡ bytes.now) }
     {
-        let mut items = self.bytes.clone()?;
-        items.clear();
-        items.extend_from_slice(bytes)?;
-        Ok(Text { bytes: items })
+        Text::copy_of(self.alloc, bytes)
     }
 
     /// Appends a byte. `TooLong` comes exactly at 240 bytes; otherwise `BadByte` carries the text's
@@ -77,66 +78,81 @@ impl Text {
         ensures answer { Gives (λ _. self.new) result (pushed_text self.old byte) }
         ensures kept { OnErr result (self.new ≡ self.old) }
     {
-        if self.bytes.len() >= MAX_LEN {
+        if self.bytes().len() >= MAX_LEN {
             return Err(TextFault::TooLong);
         }
         if byte < b' ' {
-            return Err(TextFault::BadByte(self.bytes.len()));
+            return Err(TextFault::BadByte(self.bytes().len()));
         }
-        match self.bytes.push(byte) {
-            Ok(()) => Ok(()),
-            Err(_) => Err(TextFault::Memory),
+        match self.with(byte) {
+            Ok(text) => {
+                *self = text;
+                Ok(())
+            }
+            Err(Memory) => Err(TextFault::Memory),
         }
     }
 
+    // The text with one more byte.
+    fn with(&self, byte: u8) -> Result<Text, Memory>
+        requires room { length self.now < MAX_LEN }
+        requires good { ascii.space ≤ byte }
+        ensures { IfOk result (λ t. t ≡ self.now ++ byte ∷ []) }
+    {
+        let mut line = Line::new();
+        line.put_all(self.bytes());
+        line.put(byte);
+        self.like(line.bytes())
+    }
+
     /// The bytes: at most 240, each at least 32.
+    #[inline(always)]
     pub fn bytes(&self) -> &[u8]
         ensures value { result.now ≡ self.now }
         ensures text { IsText self.now }
     {
-        self.bytes.as_slice()
+        self.held.bytes()
     }
 
     /// An equal text.
     pub fn copy(&self) -> Result<Text, Memory>
         ensures { IfOk result (λ t. t ≡ self.now) }
     {
-        let bytes = self.bytes.clone()?;
-        Ok(Text { bytes })
+        self.like(self.bytes())
     }
 
     /// The order of two texts by their bytes, letters folded onto capitals.
     pub fn fold_cmp(&self, other: &Text) -> Ordering
         ensures { result ≡ slice_cmp nat_cmp (map to_ascii_uppercase self.now) (map to_ascii_uppercase other.now) }
     {
-        fold_cmp(self.bytes.as_slice(), other.bytes.as_slice())
+        fold_cmp(self.bytes(), other.bytes())
     }
 
     /// The text with its small letters raised.
     pub fn upper(&self) -> Result<Text, Memory>
         ensures { IfOk result (λ t. t ≡ map to_ascii_uppercase self.now) }
     {
-        let mut text = self.copy()?;
-        raise_all(&mut text.bytes);
-        Ok(text)
+        let mut bytes = Vec::from_slice(self.alloc, self.bytes())?;
+        raise_all(&mut bytes);
+        self.like(bytes.as_slice())
     }
 
     /// The text with its capitals lowered.
     pub fn lower(&self) -> Result<Text, Memory>
         ensures { IfOk result (λ t. t ≡ map to_ascii_lowercase self.now) }
     {
-        let mut text = self.copy()?;
-        lower_all(&mut text.bytes);
-        Ok(text)
+        let mut bytes = Vec::from_slice(self.alloc, self.bytes())?;
+        lower_all(&mut bytes);
+        self.like(bytes.as_slice())
     }
 
     /// The text with each letter raised that follows no letter, and the other letters lowered.
     pub fn proper(&self) -> Result<Text, Memory>
         ensures { IfOk result (λ t. t ≡ proper_of self.now) }
     {
-        let mut text = self.copy()?;
-        make_proper(&mut text.bytes);
-        Ok(text)
+        let mut bytes = Vec::from_slice(self.alloc, self.bytes())?;
+        make_proper(&mut bytes);
+        self.like(bytes.as_slice())
     }
 
     /// The bytes of the text without spaces at its ends, and with one space between words.
@@ -144,7 +160,7 @@ impl Text {
         ensures value { result ≡ trimmed self.now }
         ensures text { IsText result }
     {
-        single_spaced(without_front(self.bytes.as_slice()))
+        single_spaced(without_front(self.bytes()))
     }
 
     /// The text without spaces at its ends, and with one space between words.
@@ -162,7 +178,7 @@ impl Text {
         ensures none { IfNone result (IsNoPlace what.now self.now from) }
         ensures text { IsText self.now }
     {
-        first_place(what.bytes.as_slice(), self.bytes.as_slice(), from)
+        first_place(what.bytes(), self.bytes(), from)
     }
 }
 

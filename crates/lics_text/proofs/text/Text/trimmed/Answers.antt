@@ -8,12 +8,12 @@ single_spaced-requires c =
     omega (
       arith,
       ap length c.without_front.ensures,
-      front_shorter c.as_slice.result.now,
-      ap length c.as_slice.ensures.value,
-      c.self.invariant.0,
+      front_shorter c.bytes.result.now,
+      ap length c.bytes.ensures.value,
+      c.bytes.ensures.text.0,
     )
 
 pub returns-clause-text : goal.returns-clause-text
 returns-clause-text c =
-    let is : c.single_spaced.result ≡ trimmed c.self.inside.bytes.items = search rules in
-    rw is (trim_kept c.self.inside.bytes.items c.self.invariant)
+    let is : c.single_spaced.result ≡ trimmed c.args.self.now = search rules in
+    rw is (trim_kept c.args.self.now c.bytes.ensures.text)

@@ -1,5 +1,10 @@
+use Rattle.std.specs.Char.{to_ascii_uppercase}
+use Rattle.std.proofs.Common.{◌≡◌, map, rules, subst, sym}
+use Rattle.lics_text.specs.Bytes.{IsText}
 use Rattle.lics_text.proofs.Kept.{upper_kept}
 use Rattle.lics_text.proofs.text.Text.upper.Goals as goal
 
-pub invariant_of-text : goal.invariant_of-text
-invariant_of-text c = rw c.raise_all.ensures (upper_kept _ c.text.invariant)
+pub like-requires : goal.like-requires
+like-requires c =
+    let is : c.as_slice.result.now ≡ map to_ascii_uppercase c.bytes.result.now = search rules in
+    rw is (upper_kept c.bytes.result.now (subst IsText (sym c.bytes.ensures.value) c.bytes.ensures.text))

@@ -1,0 +1,2 @@
+-- How the code keeps its books; no definition beside this folder speaks of it.
+pub mod Held
