@@ -162,8 +162,15 @@ fn rest_of(
     Ok((rest, again))
 }
 
+// Whether no formula is dirty.
+fn is_clean(dirty: &CellSet) -> bool
+    ensures { result ≡ true → dirty.now.keys ≡ [] }
+{
+    dirty.len() == 0
+}
+
 // Recalculation in natural order, where the dirty formulas stand in an order in which each comes after all that it
-// reads.
+// reads. Mostly none is dirty behind a write of a cell that no formula reads.
 fn recalc_in_order<E: Means>(
     store: &mut Store,
     dirty: &mut CellSet,
@@ -185,6 +192,9 @@ fn recalc_in_order<E: Means>(
     ensures none { OnOk result (dirty.new.keys ≡ []) }
     ensures count { OnOk result (E.count tally.new ≡ raised_by (length dirty.old.keys) (E.count tally.old)) }
 {
+    if is_clean(dirty) {
+        return Ok(());
+    }
     pass_over(store, dirty.as_slice(), context, tally)?;
     dirty.truncate(0);
     Ok(())
