@@ -38,7 +38,6 @@ use Rattle.session_core.specs.Screen.{painted_screen, panel_of, screen}
 use Rattle.session_core.specs.inner.Touches.{touches_row, Touches}
 use Rattle.session_core.specs.Waiting.{panel_by, waiting_panel}
 use Rattle.session_core.specs.inner.Showing.{is_shown, shows_waiting}
-use Rattle.session_core.specs.declared.glance.Foot.{Foot}
 use Rattle.session_core.specs.declared.glance.Glance.{Glance}
 use Rattle.session_core.specs.declared.glance.Marks.{Marks}
 use Rattle.session_core.specs.declared.touched.Touched.{Touched}
@@ -253,12 +252,11 @@ module _ (s t : State) (x : Touched) (touch : Touches x s.corner.row (sheet_of s
   foot_kept : IsKept x (glance_of s) (glance_of t) 24 → line_of s 24 ≡ line_of t 24
   foot_kept kept =
       let is = kept.foot refl in
-      ap shown_line (foot_is s is.0 ∙ ap (λ (k : Marks). foot_by k (moment_text s.day s.second))
-      (ap (λ (f : Foot). f.marks) (sym is.1.1))
+      let same = is.1.1 in
+      ap shown_line (foot_is s is.0 ∙ ap (λ (k : Marks). foot_by k (moment_text s.day s.second)) (sym same.1.1)
       ∙ ap (foot_by (marks_of t))
-      (ap (λ (day : Option ℕ). moment_text day s.second) (ap (λ (f : Foot). f.minute.day) (sym is.1.1))
-      ∙ moment_same t.day s.second t.second (ap (λ (f : Foot). f.minute.hour) (sym is.1.1))
-      (ap (λ (f : Foot). f.minute.minute) (sym is.1.1)))
+      (ap (λ (day : Option ℕ). moment_text day s.second) (sym same.0)
+      ∙ moment_same t.day s.second t.second (sym same.1.0.0) (sym same.1.0.1))
       ∙ sym (foot_is t is.1.0))
 
   -- a line that is painted the same is shown the same, where none is held

@@ -16,6 +16,7 @@ pub mod Remembering
 pub mod Reports
 pub mod Settled
 pub mod ShownRows
+pub mod Staying
 pub mod Stepping
 pub mod Still
 pub mod TextFiles

@@ -1,7 +1,7 @@
 // Which lines of the screen may be others after a step.
 ghost use Rattle.std.specs.Prelude.{◌≡◌, ◌≤◌, ◌<◌, ℕ, false, true, is_some, replicate, slice_get, Some};
 ghost use Rattle.session_rooms.specs.declared.panel.Mode.TheVariants.{Ready};
-ghost use Rattle.session_core.specs.inner.Glances.{lacks_menu, IsKept, KeepsBelow, KeepsRow, Stays};
+ghost use Rattle.session_core.specs.inner.Glances.{lacks_menu, IsCalm, IsKept, IsNoneStill, IsSameFoot, IsSameMinute, KeepsBelow, KeepsRow, Stays};
 
 use crate::rows::{FOOT, insert_rows};
 use crate::touched::Touched;
@@ -9,12 +9,11 @@ use grid_address::Cell;
 use screen_show::LineSet;
 use session_rooms::Mode;
 
-/// The day, where the clock has one, the hour and the minute.
-#[derive(Clone, Copy, PartialEq, Eq)]
-pub struct Minute {
+/// The day, where the clock has one, and the second of a step.
+#[derive(Clone, Copy)]
+pub struct Instant {
     pub day: Option<u32>,
-    pub hour: u32,
-    pub minute: u32,
+    pub second: u32,
 }
 
 /// Whether CALC, CIRC, END and CMD are told.
@@ -29,7 +28,7 @@ pub struct Marks {
 /// What the last line hangs on where no message is told.
 #[derive(Clone, Copy)]
 pub struct Foot {
-    pub minute: Minute,
+    pub instant: Instant,
     pub marks: Marks,
 }
 
@@ -98,17 +97,29 @@ fn keeps_letters(touched: &Touched, before: &Glance, after: &Glance) -> bool
     !touched.is_anything() && after.corner.col == before.corner.col
 }
 
+// Whether two seconds of a day are of the same minute: mostly they are the same.
+fn same_minute(a: u32, b: u32) -> bool
+    ensures { result ≡ true → IsSameMinute a b }
+{
+    if a == b {
+        return true;
+    }
+    a / 3600 == b / 3600 && a / 60 % 60 == b / 60 % 60
+}
+
 // Whether the last line hangs on the same.
 fn same_foot(a: &Foot, b: &Foot) -> bool
-    ensures { result ≡ true → a.now ≡ b.now }
+    ensures { result ≡ true → IsSameFoot a.now b.now }
 {
-    a.minute == b.minute && a.marks == b.marks
+    a.instant.day == b.instant.day
+        && same_minute(a.instant.second, b.instant.second)
+        && a.marks == b.marks
 }
 
 // Whether the last line is the same.
 fn keeps_foot(before: &Glance, after: &Glance) -> bool
     ensures { result ≡ true → (is_some before.now.mode ≡ true)
-        × ((is_some after.now.mode ≡ true) × (after.now.foot ≡ before.now.foot)) }
+        × ((is_some after.now.mode ≡ true) × IsSameFoot after.now.foot before.now.foot) }
 {
     are_plain(before, after) && same_foot(&after.foot, &before.foot)
 }
@@ -178,6 +189,38 @@ fn lines_beside_kept(touched: Touched, before: &Glance, after: &Glance) -> LineS
     lines
 }
 
+// Whether no area stands still before and after a step.
+fn is_none_still(before: &Glance, after: &Glance) -> bool
+    ensures { result ≡ true → IsNoneStill before.now.still after.now.still }
+{
+    let was = before.still;
+    let now = after.still;
+    !was.panel && !now.panel && !was.windows && !now.windows
+}
+
+// Whether a step begins and ends in READY with the same last line, where no area stands still: most steps of a macro's
+// loop do.
+fn is_calm(before: &Glance, after: &Glance) -> bool
+    ensures { result ≡ true → IsCalm before.now after.now }
+{
+    is_none_still(before, after)
+        && keeps_typed(before, after)
+        && same_foot(&after.foot, &before.foot)
+}
+
+// The lines that may be others than before a calm step: those of the panel and the last one are known.
+fn calm_lines(touched: Touched, before: &Glance, after: &Glance) -> LineSet
+    requires { IsCalm before.now after.now }
+    ensures { (n : ℕ) → slice_get result n ≡ Some false → IsKept touched before.now after.now n }
+{
+    let pointer = keeps_pointer(&touched, before, after);
+    let letters = keeps_letters(&touched, before, after);
+    let mut lines = row_lines(touched, before, after);
+    insert_unless(pointer, 0, &mut lines);
+    insert_unless(letters, 3, &mut lines);
+    lines
+}
+
 /// The lines that may be others than before, by what a step may have touched of the sheet and what the lines hang on
 /// before and after it: all of them where an area stands still newly.
 pub fn changed_lines(freezes: bool, touched: Touched, before: &Glance, after: &Glance) -> LineSet
@@ -187,6 +230,9 @@ pub fn changed_lines(freezes: bool, touched: Touched, before: &Glance, after: &G
 {
     if freezes {
         return LineSet::all();
+    }
+    if is_calm(before, after) {
+        return calm_lines(touched, before, after);
     }
     lines_beside_kept(touched, before, after)
 }

@@ -1,5 +1,5 @@
 // A session, step by step.
-ghost use Rattle.std.specs.Prelude.{◌≡◌, ◌≤◌, [], OnErr, OnOk, false, is_some, length, true};
+ghost use Rattle.std.specs.Prelude.{◌≡◌, ◌≤◌, ℕ, [], IfNone, IfSome, OnErr, OnOk, Some, false, is_some, length, replicate, slice_get, true};
 ghost use Rattle.std.specs.Option.{unwrap_or};
 ghost use Rattle.command_desk.specs.Desks.{of_desk};
 ghost use Rattle.commands_file.specs.Calls.{shelf_view};
@@ -11,12 +11,14 @@ ghost use Rattle.session_core.specs.Refusing.{joined};
 ghost use Rattle.session_core.specs.Screen.{screen};
 ghost use Rattle.session_core.specs.Standing.{is_at_rest, left_in, refused};
 ghost use Rattle.session_core.specs.Step.{is_key, loaded, HasBrokenStep, HasTakenStep};
+ghost use Rattle.session_core.specs.inner.Glances.{glance_of, IsKept};
 ghost use Rattle.sheet_undo.specs.Histories.{no_history};
 ghost use Rattle.work_sheet.specs.Did.{work_of};
 
-use crate::glance::changed_lines;
+use crate::glance::{Glance, changed_lines};
 use crate::machine::Machine;
 use crate::refusal::RefusedText;
+use crate::touched::Touched;
 use crate::{Event, Stepped};
 use command_desk::Desk;
 use lics_text::MAX_LEN;
@@ -45,6 +47,34 @@ impl Model for Session {
     ghost coded = { Prim.hlevel (codes, map.code, formula.the_row.coded) };
 
     ghost view = { λ a. record { state = a.machine.state; work = a.machine.work; spent = a.spent } };
+}
+
+// What the lines hang on before a step; nothing where all lines are told in any case.
+fn glance_before(machine: &Machine, lines: &LineSet) -> Option<Glance>
+    ensures { IfSome result (λ g. g ≡ glance_of machine.now.state) }
+{
+    if lines.holds_all() {
+        return None;
+    }
+    Some(machine.glance())
+}
+
+// The lines that may be others behind a step: all of them where what they hung on before it isn't known.
+fn lines_behind(
+    before: Option<Glance>,
+    freezes: bool,
+    touched: Touched,
+    machine: &Machine,
+) -> LineSet
+    ensures unknown { IfNone before (result ≡ replicate 25 true) }
+    ensures all { freezes ≡ true → result ≡ replicate 25 true }
+    ensures kept { IfSome before (λ g. freezes ≡ false → (n : ℕ) → slice_get result n ≡ Some false →
+        IsKept touched g (glance_of machine.now.state) n) }
+{
+    match before {
+        Some(before) => changed_lines(freezes, touched, &before, &machine.glance()),
+        None => LineSet::all(),
+    }
 }
 
 impl Session {
@@ -105,7 +135,7 @@ impl Session {
     /// a command may replace a file; a macro's words on text files call it too. Where memory runs out, the shelf is
     /// left by those of the step's calls that were answered, and by a `put` that wasn't, if one was begun: no other
     /// file has changed, and none where the step makes no call. The set becomes the lines in which the screen may
-    /// differ from the one before.
+    /// differ from the one before; one that holds all lines stays, and which of them do isn't found out.
     pub fn step<S: Shelf>(
         &mut self,
         event: Event,
@@ -129,14 +159,13 @@ impl Session {
         ensures sheet { OnlyMovesBy event self.old.state → IsMoved (sheet_of self.old.state) (sheet_of self.new.state) }
         ensures lines { self.new.spent ≡ false → Unchanged changed.new (screen self.old.state) (screen self.new.state) }
     {
-        let before = self.machine.glance();
+        let before = glance_before(&self.machine, changed);
         self.machine.begin();
         match self.machine.do_event(event, now, shelf) {
             Ok(taken) => {
                 let stepped = Stepped::of(taken.ends);
                 let freezes = self.machine.follow(now);
-                let after = self.machine.glance();
-                *changed = changed_lines(freezes, taken.touched, &before, &after);
+                *changed = lines_behind(before, freezes, taken.touched, &self.machine);
                 stepped
             }
             Err(Memory) => {

@@ -11,9 +11,11 @@ use Rattle.session_core.specs.inner.Still.{still_of}
 use Rattle.session_core.specs.Machine.{is_running, sheet_of, State}
 use Rattle.session_core.specs.inner.Showing.{shows_waiting}
 use Rattle.session_core.specs.inner.Touches.{touches_row}
+use Rattle.session_core.specs.declared.glance.Foot.{Foot}
 use Rattle.session_core.specs.declared.glance.Glance.{Glance}
+use Rattle.session_core.specs.declared.glance.Instant.{Instant}
 use Rattle.session_core.specs.declared.glance.Marks.{Marks}
-use Rattle.session_core.specs.declared.glance.Minute.{Minute}
+use Rattle.session_core.specs.declared.glance.Still.{Still}
 use Rattle.session_core.specs.declared.touched.Touched.{Touched}
 use Rattle.session_core.specs.declared.touched.Touched.TheVariants.{Nothing, Anything}
 
@@ -35,9 +37,9 @@ is_plain s = not (shows_waiting s.running) && nat_eq (length s.indicate) 0
 abbrev pub told_plainly : State → Option Mode
 told_plainly s = if is_plain s then plain_mode s.room else None
 
--- the minute of the last step
-abbrev pub minute_of : State → Minute
-minute_of s = record { day = s.day; hour = s.second / 3600; minute = s.second / 60 % 60 }
+-- when the last step was made
+abbrev pub instant_of : State → Instant
+instant_of s = record { day = s.day; second = s.second }
 
 -- what the last line marks
 abbrev pub marks_of : State → Marks
@@ -54,7 +56,7 @@ glance_of s = record {
   corner = s.corner;
   still = still_of s.frozen;
   mode = told_plainly s;
-  foot = record { minute = minute_of s; marks = marks_of s };
+  foot = record { instant = instant_of s; marks = marks_of s };
 }
 
 -- An area's lines are the same: it stands still after a step, or it did neither before nor after, and what they hang on
@@ -90,6 +92,23 @@ KeepsLetters x a b = (x ≡ Anything → ⊥) × (b.corner.col ≡ a.corner.col)
 abbrev pub KeepsRow : Touched → Glance → Glance → ℕ → Type 0
 KeepsRow x a b n = (touches_row x a.corner.row (a.corner.row + (n - 4)) ≡ false) × (b.corner ≡ a.corner)
 
+-- the hour and the minute of two seconds of a day are the same
+abbrev pub IsSameMinute : ℕ → ℕ → Type 0
+IsSameMinute x y = (x / 3600 ≡ y / 3600) × (x / 60 % 60 ≡ y / 60 % 60)
+
+-- what the last line hangs on is the same
+abbrev pub IsSameFoot : Foot → Foot → Type 0
+IsSameFoot a b =
+    (a.instant.day ≡ b.instant.day) × (IsSameMinute a.instant.second b.instant.second × (a.marks ≡ b.marks))
+
+-- no area stands still before and after a step
+abbrev pub IsNoneStill : Still → Still → Type 0
+IsNoneStill a b = ((a.panel ≡ false) × (b.panel ≡ false)) × ((a.windows ≡ false) × (b.windows ≡ false))
+
+-- a step begins and ends in READY with the same last line, where no area stands still
+abbrev pub IsCalm : Glance → Glance → Type 0
+IsCalm a b = IsNoneStill a.still b.still × (KeepsTyped a b × IsSameFoot b.foot a.foot)
+
 -- what a line of the screen hangs on is before and after a step the same
 pub record IsKept (touched : Touched) (a b : Glance) (n : ℕ) : Type 0 where
   pub pointer : n ≡ 0 → Stays a.still.panel b.still.panel (KeepsPointer touched a b)
@@ -97,4 +116,4 @@ pub record IsKept (touched : Touched) (a b : Glance) (n : ℕ) : Type 0 where
   pub below : n ≡ 2 → Stays a.still.panel b.still.panel (KeepsBelow a b)
   pub letters : n ≡ 3 → Stays a.still.windows b.still.windows (KeepsLetters touched a b)
   pub rows : 4 ≤ n → n < 24 → Stays a.still.windows b.still.windows (KeepsRow touched a b n)
-  pub foot : n ≡ 24 → (is_some a.mode ≡ true) × ((is_some b.mode ≡ true) × (b.foot ≡ a.foot))
+  pub foot : n ≡ 24 → (is_some a.mode ≡ true) × ((is_some b.mode ≡ true) × IsSameFoot b.foot a.foot)

@@ -4,11 +4,11 @@ ghost use Rattle.room_keys.specs.menu.Room as menu;
 ghost use Rattle.screen_layout.specs.Views.{viewed};
 ghost use Rattle.screen_show.specs.Changes.{Unchanged};
 ghost use Rattle.screen_show.specs.Screen.{IsPrinted};
-ghost use Rattle.session_core.specs.inner.Glances.{glance_of, is_plain, marks_of, minute_of, told_plainly};
+ghost use Rattle.session_core.specs.inner.Glances.{glance_of, instant_of, is_plain, marks_of, told_plainly};
 ghost use Rattle.session_core.specs.Screen.{panel_of, screen, shown_panel};
 
 use super::Machine;
-use crate::glance::{Foot, Glance, Marks, Minute};
+use crate::glance::{Foot, Glance, Instant, Marks};
 use crate::pressing::{plain_menu, plain_mode, plain_view, room_panel};
 use crate::waiting::{shows_waiting, waiting_panel};
 use room_keys::menu::{shown_items, text_below};
@@ -18,16 +18,12 @@ use serial_date::Moment;
 use session_rooms::{MenuRoom, Mode, Panel};
 
 impl Machine {
-    // The minute of the last step.
-    fn minute(&self) -> Minute
-        ensures { result ≡ minute_of self.now.state }
+    // When the last step was made.
+    fn instant(&self) -> Instant
+        ensures { result ≡ instant_of self.now.state }
     {
         let Moment { day, second } = self.moment;
-        Minute {
-            day,
-            hour: second / 3600,
-            minute: second / 60 % 60,
-        }
+        Instant { day, second }
     }
 
     // What the last line marks.
@@ -69,7 +65,7 @@ impl Machine {
             still: self.frozen.still(),
             mode: self.plain_mode(),
             foot: Foot {
-                minute: self.minute(),
+                instant: self.instant(),
                 marks: self.marks(),
             },
         }
@@ -91,6 +87,7 @@ impl Machine {
     }
 
     // Paints lines of the screen with a panel.
+    #[inline(never)]
     fn paint_panel(&self, panel: &PanelView, lines: &LineSet, shown: &mut Screen)
         requires panel { viewed panel.now ≡ panel_of self.now.state }
         requires unchanged { Unchanged lines.now shown.old (screen self.now.state) }
@@ -106,6 +103,7 @@ impl Machine {
     }
 
     // Paints lines of the screen with what is shown of the room.
+    #[inline(always)]
     fn paint_with(&self, room: PanelView, lines: &LineSet, shown: &mut Screen)
         requires view { viewed room ≡ shown_panel self.now.state }
         requires unchanged { Unchanged lines.now shown.old (screen self.now.state) }
@@ -185,6 +183,7 @@ impl Machine {
     }
 
     // Paints lines of the screen with the panel of the macro's line or menu, or else of the room.
+    #[inline(never)]
     fn paint_shown(&self, lines: &LineSet, shown: &mut Screen)
         requires { Unchanged lines.now shown.old (screen self.now.state) }
         ensures { shown.new ≡ screen self.now.state }

@@ -1,12 +1,7 @@
-use Rattle.std.proofs.Common.{◌≡◌, false, true, ℕ, Bool, List, Some, subst}
-use Rattle.std.specs.Prelude.{slice_get}
+use Rattle.std.specs.Prelude.{false, true, Bool}
+use Rattle.session_core.proofs.Staying.{at_line}
 use Rattle.session_core.specs.inner.Glances.{Stays}
 use Rattle.session_core.proofs.glance.lines_beside_kept.Goals as goal
-
--- a line that is out of a set, by its number
-at_line : (lines : List Bool) (n line : ℕ) → n ≡ line → slice_get lines n ≡ Some false
-    → slice_get lines line ≡ Some false
-at_line lines n line is out = subst (λ (k : ℕ). slice_get lines k ≡ Some false) is out
 
 -- what stays is the same by what else tells it
 stays_by : (before after : Bool) (P Q : Type 0) → (P → Q) → Stays before after P → Stays before after Q

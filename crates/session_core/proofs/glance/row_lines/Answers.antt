@@ -1,16 +1,9 @@
-use Rattle.std.proofs.Common.{◌≡◌, ◌+◌, ◌-◌, Bool, false, true, rules, subst, sym}
-use Rattle.std.proofs.lemmas.Bool.{true≢false}
-use Rattle.session_core.specs.inner.Glances.{Stays}
+use Rattle.std.proofs.Common.{◌≡◌, ◌+◌, ◌-◌, false, rules, subst, sym}
 use Rattle.session_core.specs.inner.Touches.{touches_row}
 use Rattle.session_core.specs.declared.touched.Touched.{Touched}
 use Rattle.session_core.proofs.ShownRows.{row_out}
+use Rattle.session_core.proofs.Staying.{unheld}
 use Rattle.session_core.proofs.glance.row_lines.Goals as goal
-
--- where nothing stands still, what tells that the lines are the same
-unheld : (a b : Bool) (P : Type 0) → a ≡ false → b ≡ false → P → Stays a b P
-unheld true b P was stands p = absurd (true≢false was)
-unheld false true P was stands p = absurd (true≢false stands)
-unheld false false P was stands p = p
 
 -- a row that is shown is out of the set where its line is
 pub returns-in-Rows : goal.returns-in-Rows
