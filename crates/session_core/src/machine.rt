@@ -583,8 +583,8 @@ impl Machine {
         self.indicate = line;
     }
 
-    // What follows behind a macro's step, by what it came to: a key that the macro types is taken, a fault stops the
-    // macro and is told, and a protected cell is an error.
+    // What follows behind a macro's step, by what it came to: nothing behind most steps of a loop.
+    #[inline(always)]
     fn come_to<S: Shelf>(
         &mut self,
         end: StepEnd,
@@ -600,6 +600,29 @@ impl Machine {
         ensures touched { IfOk result (λ t. HasTouched t.touched self.old.state self.new.state) }
     {
         match end {
+            StepEnd::Moves => Ok(UNTOUCHED),
+            StepEnd::Works => Ok(UNTOUCHED),
+            other => self.come_to_other(other, now, shelf),
+        }
+    }
+
+    // The same behind any step: a typed key is taken, a fault ends the macro, and a protected cell is an error.
+    #[inline(never)]
+    fn come_to_other<S: Shelf>(
+        &mut self,
+        other: StepEnd,
+        now: &Moment,
+        shelf: &mut S,
+    ) -> Result<Taken, Memory>
+        ensures ok { IfOk result (λ t. LeadsOver (come_to other) now.now t.ends self.old self.new
+            (shelf_view (S.holds shelf.old) (S.faults shelf.old))
+            (shelf_view (S.holds shelf.new) (S.faults shelf.new))) }
+        ensures memory { OnErr result (BreaksOver (come_to other) now.now self.old.state
+            (shelf_view (S.holds shelf.old) (S.faults shelf.old))
+            (shelf_view (S.holds shelf.new) (S.faults shelf.new))) }
+        ensures touched { IfOk result (λ t. HasTouched t.touched self.old.state self.new.state) }
+    {
+        match other {
             StepEnd::Types(key) => self.take(key, now, shelf),
             StepEnd::Moves => Ok(UNTOUCHED),
             StepEnd::Works => Ok(UNTOUCHED),

@@ -4,7 +4,7 @@ use Rattle.commands_file.proofs.Broken.{none_over}
 use Rattle.session_core.specs.Machine.{scene_at}
 use Rattle.session_core.proofs.Alone.{alone, no_replies}
 use Rattle.session_core.proofs.Failing.{failed_calls}
-use Rattle.session_core.proofs.machine.Machine.come_to.Goals as goal
+use Rattle.session_core.proofs.machine.Machine.come_to_other.Goals as goal
 
 pub returns-in-Moves-clause-ok : goal.returns-in-Moves-clause-ok
 returns-in-Moves-clause-ok g c = rw c.in-Moves.is (alone _ _ _ _ _ _ (search rules) refl)
