@@ -119,10 +119,14 @@ impl EditLog {
         ensures noted { OnOk result
             ((c : Place) → has same_place set.now.keys c ≡ true → is_noted self.new c ≡ true) }
     {
-        if self.is_before_run(set) {
-            return note_run(&mut self.changes, store, set.as_slice());
+        let cells = set.as_slice();
+        if cells.is_empty() {
+            return Ok(());
         }
-        self.note_all(store, set.as_slice())
+        if self.is_before_run(set) {
+            return note_run(&mut self.changes, store, cells);
+        }
+        self.note_all(store, cells)
     }
 
     /// Notes the states that cells have in a store, but for those that are noted. What stood before in the store stays
