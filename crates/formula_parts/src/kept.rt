@@ -87,13 +87,11 @@ impl Findings {
     {
         let last = grown(self.last, cell, number);
         let before = grown(self.before, cell, number);
-        let rising = beside(self.rising, cell);
-        let uneven = beside(self.uneven, cell);
+        let apart = self.without(cell);
         Findings {
             last,
             before,
-            rising,
-            uneven,
+            ..apart
         }
     }
 
