@@ -12,12 +12,12 @@ use Rattle.std.proofs.Math.Seq.{take-append_seam, take-length}
 use Rattle.cell_maps.proofs.Sets.{fresh}
 use Rattle.cell_maps.specs.Sets.{has, insert_key}
 use Rattle.grid_address.proofs.Places.{same_place_is, same_place_itself, same_place_laws}
-use Rattle.grid_address.specs.Place.{same_place, Place}
+use Rattle.grid_address.specs.Place.{rank, same_place, Place}
 use Rattle.sheet_store.specs.Grid.{Cells}
 use Rattle.sheet_store.specs.State.{CellState}
 use Rattle.edit_log.proofs.Changed.{cells_and, same_put}
 use Rattle.edit_log.specs.Changes.{all_changed, cells_of, is_noted, AreOnce}
-use Rattle.edit_log.specs.inner.Runs.{rank, AreListed}
+use Rattle.edit_log.specs.inner.Runs.{AreListed}
 
 -- no cell of none comes twice
 pub none_twice : IsDistinct same_place []

@@ -4,7 +4,7 @@ ghost use Rattle.std.specs.List.{IsDistinct};
 ghost use Rattle.cell_maps.specs.Sets.{has};
 ghost use Rattle.grid_address.specs.Place.{same_place, Place};
 ghost use Rattle.edit_log.specs.Changes.{all_changed, cells_of, is_noted};
-ghost use Rattle.edit_log.specs.inner.Runs.{rank, AreListed};
+ghost use Rattle.edit_log.specs.inner.Runs.{AreListed};
 
 use crate::Change;
 use cell_maps::CellSet;
@@ -12,21 +12,13 @@ use grid_address::Cell;
 use lics_text::Memory;
 use sheet_store::Store;
 
-// Where a cell stands among all of the sheet, in row order.
-fn rank(cell: Cell) -> u32
-    ensures rank { result ≡ rank cell }
-    ensures below { result < 16777216 }
-{
-    u32::from(cell.row) * 256 + u32::from(cell.col)
-}
-
 /// Whether the cells come in row order, so that none comes twice.
 pub fn is_run(cells: &[Cell]) -> bool
     ensures { result ≡ true → IsDistinct same_place cells.now }
 {
     let mut least = 0;
     for cell in cells {
-        let rank = rank(*cell);
+        let rank = cell.rank();
         if rank < least {
             return false;
         }

@@ -1,5 +1,5 @@
 -- A place of the sheet, and the order of places: by row, then by column.
-use Rattle.std.specs.Prelude.{ℕ, ◌+◌, ◌-◌, ◌<◌, Bool, ◌&&◌, nat_eq, nat_le, min, max}
+use Rattle.std.specs.Prelude.{ℕ, ◌+◌, ◌-◌, ◌*◌, ◌<◌, Bool, ◌&&◌, nat_eq, nat_le, min, max}
 use Rattle.std.specs.declared.cmp.Ordering.{Ordering}
 use Rattle.std.specs.Ordering.{nat_cmp, ordering_then}
 use Rattle.grid_address.specs.Limits.{COLUMNS, LAST_COLUMN, LAST_ROW, ROWS}
@@ -16,6 +16,10 @@ InSheet p = (p.row < ROWS) × (p.col < COLUMNS)
 -- the order of cells row by row, and within a row by columns
 abbrev pub place_cmp : Place → Place → Ordering
 place_cmp a b = ordering_then (nat_cmp a.row b.row) (nat_cmp a.col b.col)
+
+-- where a place stands among all of the sheet, in row order
+abbrev pub rank : Place → ℕ
+rank p = p.row * 256 + p.col
 
 -- whether two cells are the same
 abbrev pub same_place : Place → Place → Bool

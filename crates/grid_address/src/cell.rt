@@ -1,5 +1,5 @@
-ghost use Rattle.std.specs.Prelude.{◌≡◌};
-ghost use Rattle.grid_address.specs.Place.{InSheet};
+ghost use Rattle.std.specs.Prelude.{◌≡◌, ◌<◌};
+ghost use Rattle.grid_address.specs.Place.{rank, InSheet};
 
 use std::marker::Model;
 
@@ -31,5 +31,14 @@ impl Cell {
         ensures { InSheet self.now }
     {
         let _row = self.row;
+    }
+
+    /// Where the cell stands among all of the sheet, in row order.
+    #[inline(always)]
+    pub fn rank(&self) -> u32
+        ensures rank { result ≡ rank self.now }
+        ensures below { result < 16777216 }
+    {
+        u32::from(self.row) * 256 + u32::from(self.col)
     }
 }

@@ -4,9 +4,9 @@ use Rattle.std.proofs.Common.{ap, arith, sym, ◌∙◌, inl, inr}
 use Rattle.std.proofs.lemmas.Bool.{false≢true, or_cases}
 use Rattle.cell_maps.specs.Sets.{has}
 use Rattle.grid_address.proofs.Places.{same_place_is}
-use Rattle.grid_address.specs.Place.{same_place, Place}
+use Rattle.grid_address.specs.Place.{rank, same_place, Place}
 use Rattle.sheet_edits.proofs.Listed.{pushed}
-use Rattle.sheet_edits.specs.inner.Ranks.{rank, StandBefore}
+use Rattle.sheet_edits.specs.inner.Ranks.{StandBefore}
 
 -- of no cells each stands before any rank
 pub none_before : (cells : List Place) (least : ℕ) → cells ≡ [] → StandBefore least cells

@@ -4,7 +4,6 @@ ghost use Rattle.std.specs.FinMap as map;
 ghost use Rattle.grid_address.specs.Place.{same_place, Place};
 ghost use Rattle.recalculation.specs.Context.{format_of};
 ghost use Rattle.sheet_store.specs.Grid.{is_formula, is_kept, IsSound};
-ghost use Rattle.sheet_edits.specs.inner.Ranks.{rank};
 ghost use Rattle.sheet_edits.specs.Spans.{changed, write_state, written_all, written_cells, AreGathered};
 
 use crate::changes::Changes;
@@ -13,14 +12,6 @@ use grid_address::{Cell, CellList, Format};
 use lics_text::Memory;
 use recalculation::format_of;
 use sheet_store::{CellState, Store, Write, Writes};
-
-// Where a cell stands in row order.
-fn rank_of(cell: Cell) -> u32
-    ensures below { result < 16777216 }
-    ensures rank { result ≡ rank cell }
-{
-    256 * u32::from(cell.row) + u32::from(cell.col)
-}
 
 // The least rank behind this one, and no lower than what was the least before.
 fn behind(least: u32, rank: u32) -> u32
@@ -116,7 +107,7 @@ pub fn gathered(
     let mut least = 0;
     for place in 0..writes.len() {
         if let Some(write) = writes.get(place) {
-            let rank = rank_of(write.cell);
+            let rank = write.cell.rank();
             gather(store, write, cells, changes, rank >= least)?;
             least = behind(least, rank);
         }

@@ -1,12 +1,8 @@
 -- How it is kept which cells are noted.
-use Rattle.std.specs.Prelude.{ℕ, ◌≡◌, ◌+◌, ◌*◌, length, take, List, Option}
+use Rattle.std.specs.Prelude.{ℕ, ◌≡◌, length, take, List, Option}
 use Rattle.grid_address.specs.Place.{Place}
 use Rattle.sheet_store.specs.State.{CellState}
 use Rattle.edit_log.specs.Changes.{cells_of, AreOnce}
-
--- where a place stands among all of the sheet, in row order
-abbrev pub rank : Place → ℕ
-rank p = p.row * 256 + p.col
 
 -- the keys are the cells of the first changes, and no cell changes twice
 pub record AreListed (keys : List Place) (es : List (Place × Option CellState)) : Type 0 where

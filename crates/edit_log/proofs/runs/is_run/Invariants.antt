@@ -1,8 +1,7 @@
 use Rattle.std.specs.Prelude.{◌≡◌, ◌<◌, true, take}
 use Rattle.std.specs.List.{IsDistinct}
 use Rattle.cell_maps.specs.Sets.{has}
-use Rattle.grid_address.specs.Place.{same_place, Place}
-use Rattle.edit_log.specs.inner.Runs.{rank}
+use Rattle.grid_address.specs.Place.{rank, same_place, Place}
 use Rattle.edit_log.proofs.runs.is_run.Given as goal
 
 abbrev pub invariant-loop-cell : goal.invariant-loop-cell

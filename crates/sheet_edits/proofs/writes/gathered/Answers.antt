@@ -23,7 +23,7 @@ loop-place-preserved c = elim c.match-get.branch [
     before = before_more c.loop-place.cells c.match-get.cells w.in-Some.write.now.cell
         (w.cells-is ∙ w.in_ok-gather.ensures.cells) c.loop-place.least c.match-get.least c.loop-place.invariant.before
         (omega (arith, w.least-is, w.behind-least.ensures.least))
-        (omega (arith, w.least-is, w.behind-least.ensures.rank, w.rank_of-rank.ensures.rank));
+        (omega (arith, w.least-is, w.behind-least.ensures.rank, w.rank-rank.ensures.rank));
   }
   | in_default w ↦ absurd (omega (arith, c.loop-place-test.true, c.len-place-end.ensures, w.in_default.ensures.none))
 ]
