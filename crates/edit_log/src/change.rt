@@ -49,6 +49,7 @@ impl Model for Change {
 }
 
 // What a cell of this state has.
+#[inline(always)]
 fn had_of(state: &CellState, alloc: Global) -> Result<Had, Memory>
     ensures { IfOk result (λ h. state_had h ≡ Some state.now) }
 {
@@ -109,18 +110,20 @@ impl Change {
         ensures err { OnErr result (changes.new.items ≡ changes.old.items) }
     {
         store.are_held();
-        if let Some(state) = store.get(cell)
-            && let (ContentRef::Formula(formula), ValueRef::Num(number)) = (
-                state.content(),
-                state.value(),
-            )
-        {
-            let had = Had::Computed(state.format(), formula.copy()?, number);
-            changes.push(Change { cell, had })?;
+        let Some(state) = store.get(cell) else {
+            changes.push(Change::gone(cell))?;
             return Ok(());
+        };
+        match (state.content(), state.value()) {
+            (ContentRef::Formula(formula), ValueRef::Num(number)) => {
+                let had = Had::Computed(state.format(), formula.copy()?, number);
+                changes.push(Change { cell, had })?;
+            }
+            _ => {
+                let had = had_of(state, store.alloc())?;
+                changes.push(Change { cell, had })?;
+            }
         }
-        let change = Change::at(store, cell)?;
-        changes.push(change)?;
         Ok(())
     }
 

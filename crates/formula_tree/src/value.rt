@@ -102,6 +102,7 @@ pub enum Content {
 
 impl Content {
     /// An equal content.
+    #[inline(always)]
     pub fn copy(&self) -> Result<Content, Memory>
         ensures { IfOk result (λ c. c ≡ self.now) }
     {
@@ -137,6 +138,7 @@ pub enum ContentRef<'a> {
 
 impl<'a> ContentRef<'a> {
     /// The content itself. A formula is shared with the one that is looked at.
+    #[inline(always)]
     pub fn copy(&self) -> Result<Content, Memory>
         ensures { IfOk result (λ c. c ≡ seen_content self.now) }
     {

@@ -185,6 +185,7 @@ impl CellState {
     }
 
     /// An equal state. A formula's tree is shared with this one's.
+    #[inline(always)]
     pub fn copy(&self, alloc: Global) -> Result<CellState, Memory>
         ensures { IfOk result (λ s. s ≡ self.now) }
     {
