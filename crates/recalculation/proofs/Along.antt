@@ -18,7 +18,7 @@ use Rattle.cell_maps.specs.Sets.{has}
 use Rattle.natural_order.specs.Walk.{order, IsSplit, Precedes, Reaches, Walked}
 use Rattle.natural_order.specs.Walk.Reaches.{one, more}
 use Rattle.range_index.specs.Owners.{hold}
-use Rattle.sheet_store.specs.Grid.{formulas, Grid}
+use Rattle.sheet_store.specs.Grid.{formulas, value_at, value_of, Grid}
 use Rattle.sheet_store.specs.State.{CellState}
 use Rattle.recalculation.proofs.Contents.{same_evaluated, same_itself, same_on}
 use Rattle.recalculation.proofs.Cut.{pass_is_cut, value_revalued}
@@ -28,7 +28,7 @@ use Rattle.recalculation.proofs.Members.{has_pre}
 use Rattle.recalculation.proofs.Rest.{formulas_all, further, onto, onto-has, onto-seen, right_all, settled_pass}
 use Rattle.recalculation.proofs.Rest.{IsRight}
 use Rattle.recalculation.proofs.Valued.{told_valued, with_value}
-use Rattle.recalculation.specs.Context.{formula_at, outlook_at, value_at, value_of, Context}
+use Rattle.recalculation.specs.Context.{formula_at, outlook_at, Context}
 use Rattle.recalculation.specs.InOrder.{GoesInOrder}
 use Rattle.recalculation.specs.inner.Laws.{has_formula}
 use Rattle.recalculation.specs.Passes.{evaluated, pass, passes, revalued, IsPlain, IsRest, IsSound, IsWhatStays}

@@ -15,10 +15,10 @@ use Rattle.formula_tree.specs.Tree.{Tree}
 use Rattle.cell_maps.specs.Sets.{has}
 use Rattle.natural_order.specs.Walk.{Reaches}
 use Rattle.range_index.specs.Owners.{hold}
-use Rattle.sheet_store.specs.Grid.{set_value_at, Grid}
+use Rattle.sheet_store.specs.Grid.{set_value_at, value_at, Grid}
 use Rattle.recalculation.proofs.Members.{has_pre, pre_along}
 use Rattle.recalculation.proofs.Valued.{formula_blind, told_valued, value_valued, valued_same}
-use Rattle.recalculation.specs.Context.{formula_at, formula_of, outlook_at, value_at, Context}
+use Rattle.recalculation.specs.Context.{formula_at, formula_of, outlook_at, Context}
 use Rattle.recalculation.specs.Passes.{evaluated, pass, revalued, IsSound, Meaning}
 use Rattle.recalculation.specs.inner.Meanings.{IsMeaning}
 use Rattle.recalculation.specs.Reading.{is_formula_at, pre, spans_in}

@@ -10,10 +10,10 @@ use Rattle.cell_maps.specs.Sets.{has}
 use Rattle.natural_order.specs.Walk.{Reaches}
 use Rattle.natural_order.specs.Walk.Reaches.{one, more}
 use Rattle.range_index.specs.Owners.{hold}
-use Rattle.sheet_store.specs.Grid.{Grid}
+use Rattle.sheet_store.specs.Grid.{value_of, Grid}
 use Rattle.recalculation.proofs.First.{reads_formula}
 use Rattle.recalculation.proofs.Members.{has_pre, pre_of_read, read_of_pre}
-use Rattle.recalculation.specs.Context.{formula_at, formula_of, outlook_at, value_of, Context}
+use Rattle.recalculation.specs.Context.{formula_at, formula_of, outlook_at, Context}
 use Rattle.recalculation.specs.Passes.{EditKeepsSound, IsSpread, Meaning}
 use Rattle.recalculation.specs.inner.Meanings.{IsMeaning}
 use Rattle.recalculation.specs.Reading.{is_formula_at, pre, reads_at, spans_at, spans_in}

@@ -20,11 +20,10 @@ use Rattle.formula_parts.specs.Outlook.{block_cells, cells_of, row_cells}
 use Rattle.natural_order.proofs.Cut.{filter_passes, has-filter}
 use Rattle.cell_maps.specs.Sets.{has}
 use Rattle.sheet_store.proofs.RowOrder.{same_members}
-use Rattle.sheet_store.specs.Grid.{any_state, cells_within, Grid}
+use Rattle.sheet_store.specs.Grid.{any_state, cells_within, value_at, value_of, Grid}
 use Rattle.sheet_store.specs.State.{CellState}
 use Rattle.recalculation.specs.inner.Laws.{has_picked, passes_at, Ascends}
 use Rattle.recalculation.proofs.Ascending.{picked_ascends}
-use Rattle.recalculation.specs.Context.{value_at, value_of}
 
 -- a filtered list has what passes of the list
 pub has_filtered : (p : Place → Bool) (xs : List Place) (d : Place)

@@ -16,14 +16,14 @@ use Rattle.cell_maps.specs.Sets.{has}
 use Rattle.natural_order.specs.Walk.{IsExact, Precedes, Reaches}
 use Rattle.natural_order.specs.Walk.Reaches.{one}
 use Rattle.range_index.specs.Owners.{hold}
-use Rattle.sheet_store.specs.Grid.{formulas, Grid}
+use Rattle.sheet_store.specs.Grid.{formulas, value_at, value_of, Grid}
 use Rattle.sheet_store.specs.State.{CellState}
 use Rattle.recalculation.proofs.Cut.{formulas_stay, pass_is_cut, pre_stays, read_formula, revalued_same, sound_all}
 use Rattle.recalculation.proofs.Cut.{value_revalued}
 use Rattle.recalculation.specs.inner.Laws.{has_formula}
 use Rattle.recalculation.proofs.Members.{pre_formulas}
 use Rattle.recalculation.proofs.Valued.{get_valued, with_value}
-use Rattle.recalculation.specs.Context.{formula_at, formula_of, outlook_at, value_at, value_of, Context}
+use Rattle.recalculation.specs.Context.{formula_at, formula_of, outlook_at, Context}
 use Rattle.recalculation.specs.Passes.{evaluated, pass, passes, revalued, IsRest, IsSound, Meaning, RecalculationIsCut}
 use Rattle.recalculation.specs.inner.Meanings.{IsMeaning}
 use Rattle.recalculation.specs.Reading.{is_formula_at, natural_order, pre}

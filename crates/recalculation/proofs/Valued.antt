@@ -6,9 +6,9 @@ use Rattle.std.proofs.lemmas.Bool.{cond-false}
 use Rattle.grid_address.proofs.Places.{get_inserted, same_place_is, same_places}
 use Rattle.grid_address.specs.Place.{same_place, Place}
 use Rattle.formula_tree.specs.declared.value.Value.{Value}
-use Rattle.sheet_store.specs.Grid.{valued, Cells}
+use Rattle.sheet_store.specs.Grid.{value_of, valued, Cells}
 use Rattle.sheet_store.specs.State.{CellState}
-use Rattle.recalculation.specs.Context.{content_of, format_of, formula_of, value_of}
+use Rattle.recalculation.specs.Context.{content_of, format_of, formula_of}
 
 -- what is held of a cell, with another value
 abbrev pub with_value : Option CellState → Value → Option CellState

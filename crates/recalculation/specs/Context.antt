@@ -7,10 +7,8 @@ use Rattle.range_names.specs.Names.{NameMap}
 use Rattle.formula_tree.specs.Tree.{Tree}
 use Rattle.formula_tree.specs.declared.value.Content.{Content}
 use Rattle.formula_tree.specs.declared.value.Content.TheVariants as content
-use Rattle.formula_tree.specs.declared.value.Value.{Value}
-use Rattle.formula_tree.specs.declared.value.Value.TheVariants as value
 use Rattle.sheet_store.specs.Choices.{Choices}
-use Rattle.sheet_store.specs.Grid.{width_of, Grid}
+use Rattle.sheet_store.specs.Grid.{value_at, width_of, Grid}
 use Rattle.sheet_store.specs.State.{CellState}
 use Rattle.formula_parts.specs.Outlook.{Outlook, Sight}
 use Rattle.formula_parts.specs.Scenes.{outlook_of}
@@ -30,11 +28,6 @@ context_of names settings scene = record { names = names; settings = settings; s
 -- what a borrowed context tells
 abbrev pub seen_context : ContextRef → Context
 seen_context x = context_of x.names.now x.settings.now x.scene.now
-
--- the value of what is held of a cell, blank where nothing is
-abbrev pub value_of : Option CellState → Value
-value_of None = value.Blank
-value_of (Some s) = s.value
 
 -- the content of what is held of a cell, where something is
 abbrev pub content_of : Option CellState → Option Content
@@ -56,10 +49,6 @@ abbrev pub formula_of : Option CellState → Option Tree
 formula_of None = None
 formula_of (Some s) = formula_in s.content
 
--- the value that a cell has in the grid
-abbrev pub value_at : Grid → Place → Value
-value_at g c = value_of (map.get g.cells c)
-
 -- the formula that a cell has in the grid
 abbrev pub formula_at : Grid → Place → Option Tree
 formula_at g c = formula_of (map.get g.cells c)
@@ -73,7 +62,7 @@ width_or global (Some n) = n
 -- names
 abbrev pub sight_of : NameMap → Choices → Grid → Sight
 sight_of names settings g = record {
-  values = λ c. value_at g c;
+  values = value_at g;
   contents = λ c. content_of (map.get g.cells c);
   formats = λ c. format_of (map.get g.cells c);
   widths = λ col. width_or settings.width (width_of g col);

@@ -10,10 +10,10 @@ use Rattle.formula_parts.specs.Outlook.{Outlook}
 use Rattle.depend_graph.specs.Network.{ReachesCell}
 use Rattle.cell_maps.specs.Sets.{has}
 use Rattle.natural_order.specs.Walk.{Reaches}
-use Rattle.sheet_store.specs.Grid.{set_value_at, Grid}
+use Rattle.sheet_store.specs.Grid.{set_value_at, value_at, Grid}
 use Rattle.sheet_store.specs.declared.order.Order.{Order}
 use Rattle.sheet_store.specs.declared.order.Order.TheVariants as orders
-use Rattle.recalculation.specs.Context.{content_of, format_of, formula_at, outlook_at, value_at, Context}
+use Rattle.recalculation.specs.Context.{content_of, format_of, formula_at, outlook_at, Context}
 use Rattle.recalculation.specs.Reading.{is_formula_at, natural_order, pre, reads_at, StaysDirty}
 
 -- what a formula in a cell is worth in an outlook

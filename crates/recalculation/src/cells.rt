@@ -4,7 +4,8 @@ ghost use Rattle.std.specs.FinMap as map;
 ghost use Rattle.formula_tree.specs.Seen.{seen_content, seen_value};
 ghost use Rattle.formula_tree.specs.declared.value.Value.TheVariants as value;
 ghost use Rattle.sheet_store.specs.Grid as grid;
-ghost use Rattle.recalculation.specs.Context.{content_of, format_of, value_at, width_or};
+ghost use Rattle.recalculation.specs.Context.{content_of, format_of, width_or};
+ghost use Rattle.sheet_store.specs.Grid.{value_at};
 
 use fixed_value::Fixed;
 use formula_tree::{ContentRef, ValueRef};

@@ -3,7 +3,8 @@ ghost use Rattle.std.specs.Prelude.{◌≡◌, ◌*◌, Bool, length, OnErr, OnO
 ghost use Rattle.grid_address.specs.Place.{same_place, Place};
 ghost use Rattle.cell_maps.specs.Sets.{has};
 ghost use Rattle.formula_parts.specs.inner.Kept.{IsKept};
-ghost use Rattle.recalculation.specs.Context.{seen_context, value_at};
+ghost use Rattle.recalculation.specs.Context.{seen_context};
+ghost use Rattle.sheet_store.specs.Grid.{value_at};
 ghost use Rattle.recalculation.specs.Passes.{evaluated, pass, passes, raised_by, IsSound, SameContents, SameOutside};
 ghost use Rattle.recalculation.specs.Reading.{is_formula_at};
 

@@ -3,7 +3,8 @@ ghost use Rattle.std.specs.Prelude.{◌≡◌, ◌++◌, ◌∷◌, [], IfOk, On
 ghost use Rattle.std.specs.List.{filter};
 ghost use Rattle.grid_address.specs.Place.{Place};
 ghost use Rattle.formula_tree.specs.Values.{is_filled};
-ghost use Rattle.recalculation.specs.Context.{sight_of, value_at};
+ghost use Rattle.recalculation.specs.Context.{sight_of};
+ghost use Rattle.sheet_store.specs.Grid.{value_at};
 
 use crate::cells::{content_of, format_of, number_of, value_of, width_of};
 use fixed_value::Fixed;

@@ -11,8 +11,8 @@ use Rattle.formula_tree.specs.declared.value.Content.{Content}
 use Rattle.formula_tree.specs.declared.value.Content.TheVariants as content
 use Rattle.formula_tree.specs.declared.value.Value.{Value}
 use Rattle.formula_tree.specs.declared.value.Value.TheVariants as value
-use Rattle.recalculation.specs.Context.{formula_of, value_of}
-use Rattle.sheet_store.specs.Grid.{AreHeld, Cells, Fits, IsSound}
+use Rattle.recalculation.specs.Context.{formula_of}
+use Rattle.sheet_store.specs.Grid.{value_of, AreHeld, Cells, Fits, IsSound}
 use Rattle.sheet_store.specs.State.{CellState}
 use Rattle.sheet_edits.proofs.Overlaid.{formula_kept}
 use Rattle.sheet_edits.specs.Edits.{first_value}

@@ -8,7 +8,7 @@ use Rattle.formula_tree.specs.declared.value.Value.{Value}
 use Rattle.grid_address.proofs.Places.{get_inserted, get_removed, same_place_itself}
 use Rattle.grid_address.specs.Place.{same_place, Place}
 use Rattle.sheet_store.proofs.Held.{inserted_held, removed_held}
-use Rattle.sheet_store.specs.Grid.{held_value, value_in, Cells, IsHeld}
+use Rattle.sheet_store.specs.Grid.{value_in, value_of, Cells, IsHeld}
 use Rattle.sheet_store.specs.State.{CellState}
 use Rattle.sheet_store.specs.inner.Keeping.{GoesOn, Keeps}
 
@@ -20,7 +20,7 @@ module _ (m : Cells) (c : Place) (k new : Kept) (keeps : Keeps m k) where
   cleared goes_on = record {
     held = removed_held m c keeps.held;
     found = goes_on (value_in m) (value_in (remove m c)) keeps.found
-        (λ d f. ap held_value (get_removed m c d ∙ ap (λ b. cond b None (get m d)) f));
+        (λ d f. ap value_of (get_removed m c d ∙ ap (λ b. cond b None (get m d)) f));
   }
 
   -- a cell takes a state
@@ -28,6 +28,6 @@ module _ (m : Cells) (c : Place) (k new : Kept) (keeps : Keeps m k) where
   put_in s here goes_on = record {
     held = inserted_held m c s here keeps.held;
     found = goes_on (value_in (insert m c s)) keeps.found
-        (ap held_value (get_inserted m c s c ∙ ap (λ b. cond b (Some s) (get m c)) (same_place_itself c)))
-        (λ d f. ap held_value (get_inserted m c s d ∙ ap (λ b. cond b (Some s) (get m d)) f));
+        (ap value_of (get_inserted m c s c ∙ ap (λ b. cond b (Some s) (get m c)) (same_place_itself c)))
+        (λ d f. ap value_of (get_inserted m c s d ∙ ap (λ b. cond b (Some s) (get m d)) f));
   }

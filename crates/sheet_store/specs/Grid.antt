@@ -57,13 +57,17 @@ abbrev pub AreHeld : Cells → Type 0
 AreHeld m = (p : Place) (s : CellState) → map.get m p ≡ Some s → IsHeld p s
 
 -- the value of what is held of a cell, blank where nothing is
-abbrev pub held_value : Option CellState → Value
-held_value None = value.Blank
-held_value (Some s) = s.value
+abbrev pub value_of : Option CellState → Value
+value_of None = value.Blank
+value_of (Some s) = s.value
 
 -- the value that a cell has among the cells
 abbrev pub value_in : Cells → Place → Value
-value_in m c = held_value (map.get m c)
+value_in m c = value_of (map.get m c)
+
+-- the value that a cell has in the grid
+abbrev pub value_at : Grid → Place → Value
+value_at g = value_in g.cells
 
 -- the cell has the state; where the state isn't kept, the cell goes from the map
 abbrev pub put_state : Grid → Place → CellState → Grid

@@ -9,7 +9,7 @@ ghost use Rattle.formula_parts.specs.declared.items.Item.TheVariants as item;
 ghost use Rattle.formula_parts.specs.Lists.{in_range};
 ghost use Rattle.formula_parts.specs.inner.Kept.{IsKept};
 ghost use Rattle.sheet_store.specs.inner.Copies.{inserted_all};
-ghost use Rattle.sheet_store.specs.Grid.{any_state, cells_within, clear_cell, formatted, formulas, formulas_within, further, holds_formula, is_hidden, last_among, last_used, picked, put_state, set_format_of, set_hidden_of, set_value_at, set_width_of, value_in, width_of, AreHeld, HasFormula, IsSound};
+ghost use Rattle.sheet_store.specs.Grid.{any_state, cells_within, clear_cell, formatted, formulas, formulas_within, further, holds_formula, is_hidden, last_among, last_used, picked, put_state, set_format_of, set_hidden_of, set_value_at, set_width_of, value_at, value_in, width_of, AreHeld, HasFormula, IsSound};
 ghost use Rattle.sheet_store.specs.inner.Contents.{HasContent, IsBlankAt};
 ghost use Rattle.sheet_store.specs.inner.Keeping.{AlwaysHolds, GoesOn, GoesOnWith};
 
@@ -186,7 +186,7 @@ impl Store {
     /// Hands out what evaluations found of the values, for those that go on. Until it is given back, nothing is kept.
     #[inline(always)]
     pub fn take_kept(&mut self) -> Kept
-        ensures kept { IsKept result (value_in self.old.cells) }
+        ensures kept { IsKept result (value_at self.old) }
         ensures same { self.new ≡ self.old }
     {
         if self.kept.is_nothing() {
@@ -198,7 +198,7 @@ impl Store {
     // The same where something is kept, out of line.
     #[inline(never)]
     fn hand_out(&mut self) -> Kept
-        ensures kept { IsKept result (value_in self.old.cells) }
+        ensures kept { IsKept result (value_at self.old) }
         ensures same { self.new ≡ self.old }
     {
         let kept = self.kept;
@@ -209,7 +209,7 @@ impl Store {
     /// Takes back what evaluations found of the values as they stand.
     #[inline(always)]
     pub fn give_kept(&mut self, kept: Kept)
-        requires { IsKept kept (value_in self.old.cells) }
+        requires { IsKept kept (value_at self.old) }
         ensures { self.new ≡ self.old }
     {
         if kept.is_nothing() {

@@ -8,7 +8,7 @@ use Rattle.formula_tree.specs.Tree.{Tree}
 use Rattle.depend_graph.specs.Network.{Network}
 use Rattle.cell_maps.specs.Sets.{has}
 use Rattle.natural_order.specs.Walk.{Reaches}
-use Rattle.sheet_store.specs.Grid.{put_state, Cells, Grid}
+use Rattle.sheet_store.specs.Grid.{put_state, value_of, Cells, Grid}
 use Rattle.sheet_store.specs.declared.order.Order.{Order}
 use Rattle.sheet_store.specs.declared.order.Order.TheVariants as orders
 use Rattle.sheet_store.specs.State.{CellState}
@@ -17,7 +17,7 @@ use Rattle.recalculation.proofs.Cut.{sound_all}
 use Rattle.recalculation.proofs.Edit.{edit_keeps_sound}
 use Rattle.recalculation.proofs.First.{reads_formula}
 use Rattle.recalculation.proofs.Members.{pre_along}
-use Rattle.recalculation.specs.Context.{formula_at, formula_of, outlook_at, value_of, Context}
+use Rattle.recalculation.specs.Context.{formula_at, formula_of, outlook_at, Context}
 use Rattle.recalculation.specs.Passes.{evaluated, IsDirtyAfter, IsSound, IsSpread, Meaning, SameContents}
 use Rattle.recalculation.specs.inner.Meanings.{IsMeaning}
 use Rattle.recalculation.specs.Reading.{is_formula_at, node_of, Matches}

@@ -5,10 +5,10 @@ use Rattle.std.proofs.Common.{◌∙◌, ap}
 use Rattle.grid_address.specs.Place.{same_place, Place}
 use Rattle.depend_graph.specs.Network.{Network}
 use Rattle.cell_maps.specs.Sets.{has}
-use Rattle.recalculation.specs.Context.{formula_of, value_of}
+use Rattle.recalculation.specs.Context.{formula_of}
 use Rattle.recalculation.specs.Passes.{Meaning}
 use Rattle.recalculation.specs.inner.Meanings.{IsMeaning}
-use Rattle.sheet_store.specs.Grid.{AreHeld, Cells, Grid}
+use Rattle.sheet_store.specs.Grid.{value_of, AreHeld, Cells, Grid}
 use Rattle.sheet_store.specs.declared.order.Order.{Order}
 use Rattle.work_sheet.proofs.Held.{kept_values}
 use Rattle.sheet_edits.proofs.Sound.{same_formula, same_value}

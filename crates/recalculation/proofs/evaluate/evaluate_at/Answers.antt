@@ -1,7 +1,7 @@
 use Rattle.std.specs.Prelude.{◌≡◌, true}
 use Rattle.std.proofs.Common.{sym, ◌∙◌, ap, subst}
 use Rattle.sheet_store.specs.Grid.{Grid}
-use Rattle.recalculation.proofs.Handed.{given, taken}
+use Rattle.recalculation.proofs.Handed.{taken}
 use Rattle.recalculation.specs.Context.{seen_context}
 use Rattle.recalculation.specs.Passes.{evaluated}
 use Rattle.recalculation.specs.Reading.{is_formula_at}
@@ -18,7 +18,7 @@ evaluate_next-requires-clause-kept g c =
 
 pub give_kept-requires : goal.give_kept-requires
 give_kept-requires g c =
-    given c.evaluate_next.new.kept c.evaluate_next.new.store c.in_ok-evaluate_next.ensures.kept
+    c.in_ok-evaluate_next.ensures.kept
 
 pub returns-clause-value : goal.returns-clause-value
 returns-clause-value g c =

@@ -1,7 +1,6 @@
 use Rattle.std.specs.FinMap.{get}
 use Rattle.std.proofs.Common.{ap, refl, ◌∙◌}
-use Rattle.sheet_store.specs.Grid.{Grid}
-use Rattle.recalculation.specs.Context.{value_at}
+use Rattle.sheet_store.specs.Grid.{value_at, Grid}
 use Rattle.recalculation.proofs.Valued.{value_valued}
 use Rattle.recalculation.proofs.evaluate.evaluate_next.Goals as goal
 

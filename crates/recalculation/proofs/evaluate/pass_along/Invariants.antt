@@ -2,7 +2,8 @@ use Rattle.std.specs.Prelude.{◌≡◌, drop, Bool}
 use Rattle.cell_maps.specs.Sets.{has}
 use Rattle.grid_address.specs.Place.{same_place, Place}
 use Rattle.formula_parts.specs.inner.Kept.{IsKept}
-use Rattle.recalculation.specs.Context.{seen_context, value_at}
+use Rattle.recalculation.specs.Context.{seen_context}
+use Rattle.sheet_store.specs.Grid.{value_at}
 use Rattle.recalculation.specs.Passes.{pass, raised_by, IsSound, SameContents, SameOutside}
 use Rattle.recalculation.specs.Reading.{is_formula_at}
 use Rattle.recalculation.proofs.evaluate.pass_along.Given as goal

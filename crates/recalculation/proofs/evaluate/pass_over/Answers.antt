@@ -4,7 +4,7 @@ use Rattle.cell_maps.specs.Sets.{has}
 use Rattle.grid_address.specs.Place.{same_place, Place}
 use Rattle.sheet_store.specs.Grid.{Grid}
 use Rattle.recalculation.proofs.Contents.{same_itself}
-use Rattle.recalculation.proofs.Handed.{between, given, none_there, taken}
+use Rattle.recalculation.proofs.Handed.{between, none_there, taken}
 use Rattle.recalculation.proofs.Outside.{outside_itself}
 use Rattle.recalculation.specs.Context.{seen_context, Context}
 use Rattle.recalculation.specs.Passes.{pass, raised_by, IsSound, Meaning, SameContents, SameOutside}
@@ -38,7 +38,7 @@ pass_along-requires-clause-kept g c =
     c.take_kept-kept.ensures.kept
 
 pub give_kept-requires : goal.give_kept-requires
-give_kept-requires g c = given c.pass_along.new.kept c.pass_along.new.store c.in_ok-pass_along.ensures.kept
+give_kept-requires g c = c.in_ok-pass_along.ensures.kept
 
 pub returns-clause-values : goal.returns-clause-values
 returns-clause-values g c =

@@ -2,7 +2,7 @@ use Rattle.std.specs.Prelude.{◌≡◌, ◌++◌, drop}
 use Rattle.std.specs.List.{filter}
 use Rattle.grid_address.specs.Place.{Place}
 use Rattle.formula_tree.specs.Values.{is_filled}
-use Rattle.recalculation.specs.Context.{value_at}
+use Rattle.sheet_store.specs.Grid.{value_at}
 use Rattle.recalculation.proofs.view.filled_among.Given as goal
 
 abbrev pub invariant-loop-cell : goal.invariant-loop-cell

@@ -3,7 +3,7 @@ use Rattle.std.specs.List.{filter}
 use Rattle.grid_address.specs.Place.{Place}
 use Rattle.formula_tree.specs.Values.{is_filled}
 use Rattle.recalculation.proofs.Filled.{filled_is}
-use Rattle.recalculation.specs.Context.{value_at}
+use Rattle.sheet_store.specs.Grid.{value_at}
 use Rattle.recalculation.proofs.view.ViewLook.filled.Goals as goal
 
 pub returns : goal.returns
