@@ -5,6 +5,7 @@ use Rattle.std.specs.Prelude.{Bool, true, false, ◌||◌, ℤ, pos, ◌+ℤ◌,
 use Rattle.std.specs.List.{filter, list_any}
 use Rattle.std.proofs.lemmas.Bool.Decides.{nat_tests}
 use Rattle.std.proofs.lemmas.List.{append-nil}
+use lib.IntN.{+ℤ_assoc}
 use Rattle.grid_address.specs.Place.{height_of, is_within, width_of, Extent, Place}
 use Rattle.formula_tree.specs.Values.{is_filled}
 use Rattle.formula_tree.specs.declared.function.Function.{Function}
@@ -13,12 +14,13 @@ use Rattle.formula_tree.specs.declared.value.Value.TheVariants as value
 use Rattle.value_functions.specs.Values.{stop, unless_stopped}
 use Rattle.formula_parts.specs.declared.items.Item.{Item}
 use Rattle.formula_parts.specs.declared.items.Item.TheVariants as item
+use Rattle.formula_parts.specs.declared.totals.Held.{Held}
 use Rattle.formula_parts.specs.declared.totals.Total.{Total}
 use Rattle.formula_parts.specs.Lists.{in_range, is_err, is_na, items_in, larger, list_row, list_value, size_of, smaller}
 use Rattle.formula_parts.specs.Lists.{told_by}
 use Rattle.formula_parts.specs.Outlook.{block_cells, cells_of, filled, row_cells}
 use Rattle.formula_parts.proofs.Blocks.{block_more, place, row_more}
-use Rattle.formula_parts.specs.inner.Totals.{row_by, so_far, value_by, IsTotal}
+use Rattle.formula_parts.specs.inner.Totals.{row_by, so_far, value_by, IsHeld, IsTotal}
 
 -- blank cells have no items
 pub unfiltered : (values : Place → Value) (ps : List Place)
@@ -178,6 +180,41 @@ size_put t new x size err na size_is err_is na_is counts sums least_is greatest_
     (least_is ∙ ap (λ z. smaller t.least (item.Is z)) size_is ∙ sized_smaller t.least x)
     (greatest_is ∙ ap (λ z. larger t.greatest (item.Is z)) size_is ∙ sized_larger t.greatest x)
     (errs_are ∙ ap (λ b. t.has_err || b) err_is) (nas_are ∙ ap (λ b. t.has_na || b) na_is)
+
+or_false : (b : Bool) → (b || false) ≡ b
+or_false b = grind arith
+
+sum_apart : (x y z : ℤ) → x +ℤ (y +ℤ z) ≡ x +ℤ y +ℤ z
+sum_apart x y z = sym (+ℤ_assoc x y z)
+
+-- a number more, which is added to what stands apart
+pub number_put : (h new : Held) (more n : ℤ) → more ≡ h.apart +ℤ n → new.apart ≡ more
+    → new.total.count ≡ h.total.count + 1 → new.total.sum ≡ h.total.sum
+    → new.total.least ≡ smaller h.total.least (item.Is n) → new.total.greatest ≡ larger h.total.greatest (item.Is n)
+    → new.total.has_err ≡ h.total.has_err → new.total.has_na ≡ h.total.has_na
+    → (l : List Item) → IsHeld h l → IsHeld new (l ++ item.Is n ∷ [])
+number_put h new more n mores apart counts sums least_is greatest_is errs_are nas_are =
+    item_put (record h.total { sum = h.total.sum +ℤ h.apart }) (record new.total { sum = new.total.sum +ℤ new.apart })
+    (item.Is n) counts
+    (ap (λ z. z +ℤ new.apart) sums ∙ ap (λ z. h.total.sum +ℤ z) (apart ∙ mores) ∙ sum_apart h.total.sum h.apart n)
+    least_is greatest_is (errs_are ∙ sym (or_false h.total.has_err)) (nas_are ∙ sym (or_false h.total.has_na))
+
+-- where a row ends, the next one begins
+pub row_ended : (values : Place → Value) (s : Extent) (row count : ℕ) → count ≡ width_of s
+    → so_far values s row ++ items_in values (row_cells (s.first.row + row) s.first.col count)
+    ≡ so_far values s (row + 1) ++ items_in values (row_cells (s.first.row + (row + 1)) s.first.col 0)
+row_ended values s row count all =
+    ap (λ n. so_far values s row ++ items_in values (row_cells (s.first.row + row) s.first.col n)) all
+    ∙ row_put values s.first.row s.first.col row (width_of s)
+    ∙ none_put values (s.first.row + (row + 1)) s.first.col (so_far values s (row + 1))
+
+-- where the rows end, none begins
+pub rows_ended : (values : Place → Value) (s : Extent) (row col to : ℕ) → row ≡ to → col ≡ 0
+    → so_far values s row ++ items_in values (row_cells (s.first.row + row) s.first.col col) ≡ so_far values s to
+rows_ended values s row col to all none =
+    ap (λ n. so_far values s row ++ items_in values (row_cells (s.first.row + row) s.first.col n)) none
+    ∙ sym (none_put values (s.first.row + row) s.first.col (so_far values s row))
+    ∙ ap (so_far values s) all
 
 row_for : (f : Function) (t : Total) (l : List Item) → IsTotal t l → row_by f t ≡ list_row f l
 row_for f t l is = λ i. told_by f (is.counted i) (is.summed i) (is.least i) (is.greatest i)

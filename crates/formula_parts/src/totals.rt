@@ -1,13 +1,14 @@
 // What lists of items come to, without a list of them.
-ghost use Rattle.std.specs.Prelude.{◌≡◌, ◌<◌, ◌≤◌, ◌+◌, ◌-◌, ◌++◌, ◌∷◌, ◌||◌, [], nat_abs, IfSome, List, true};
+ghost use Rattle.std.specs.Prelude.{◌≡◌, ◌<◌, ◌≤◌, ◌+◌, ◌-◌, ◌++◌, ◌∷◌, ◌||◌, [], nat_abs, pos, if◌then◌else◌, IfSome, List, true};
 ghost use Rattle.fixed_value.specs.Numbers.{within};
 ghost use Rattle.grid_address.specs.Place.{height_of, width_of};
 ghost use Rattle.formula_tree.specs.Seen.{seen_value};
 ghost use Rattle.formula_tree.specs.declared.value.Value.TheVariants as value;
 ghost use Rattle.formula_parts.specs.declared.items.Item.{Item};
+ghost use Rattle.formula_parts.specs.declared.items.Item.TheVariants as item;
 ghost use Rattle.formula_parts.specs.Lists.{in_range, is_err, is_na, items_in, list_value, size_of};
 ghost use Rattle.formula_parts.specs.Outlook.{row_cells, Sight};
-ghost use Rattle.formula_parts.specs.inner.Totals.{row_by, so_far, value_by, IsTotal};
+ghost use Rattle.formula_parts.specs.inner.Totals.{row_by, so_far, value_by, IsHeld, IsTotal};
 
 use crate::items::{Item, larger, smaller};
 use crate::look::Look;
@@ -23,6 +24,9 @@ const BAND: u16 = 256;
 /// So many cells, and eight for each number, are looked at in a band. Past that a range is gone over by the cells that
 /// aren't blank, which are few.
 const MOST_BLANK: usize = 1_024;
+
+/// So few rows are added where the total stands.
+const FEW: u16 = 4;
 
 /// What a list of items comes to.
 #[derive(Clone, Copy)]
@@ -171,9 +175,9 @@ fn is_sparse(rows: u16, width: u16, count: usize) -> bool {
     cells.saturating_sub(MOST_BLANK) / 8 > count
 }
 
-// Adds the cells of a narrow range from a row on up to another, however few of them are filled.
+// Adds the cells of a range from a row on up to another, where these are few rows.
 #[inline(always)]
-fn add_narrow<K: Look>(total: &mut Total, span: Span, from: u16, to: u16, look: &K) -> bool
+fn add_few<K: Look>(total: &mut Total, span: Span, from: u16, to: u16, look: &K) -> bool
     requires rows { from ≤ to }
     requires inside { to ≤ height_of span }
     ensures { let so_far = so_far (K.sight look.now).values span in
@@ -187,6 +191,104 @@ fn add_narrow<K: Look>(total: &mut Total, span: Span, from: u16, to: u16, look: 
     true
 }
 
+// A total on the way, with a sum of its own for the numbers that came last: so few have one of 64 bits.
+#[derive(Clone, Copy)]
+struct Held {
+    total: Total,
+    apart: i64,
+}
+
+// Adds a number; false where there is no room.
+#[inline(always)]
+fn add_number(held: &mut Held, number: Fixed) -> bool
+    ensures { result ≡ true → (l : List Item) → IsHeld held.old l → IsHeld held.new (l ++ item.Is number ∷ []) }
+{
+    let Some(count) = held.total.count.checked_add(1) else {
+        return false;
+    };
+    let Some(sum) = held.apart.checked_add(number.millionths()) else {
+        return false;
+    };
+    let least = smaller(held.total.least, Item::Is(number));
+    let greatest = larger(held.total.greatest, Item::Is(number));
+    held.total.count = count;
+    held.total.least = least;
+    held.total.greatest = greatest;
+    held.apart = sum;
+    true
+}
+
+// Whether a cell that is no number is a label, which counts as 0, or else blank; none where it is ERR or NA.
+#[inline(never)]
+fn is_label<K: Look>(cell: Cell, look: &K) -> Option<bool>
+    ensures { let value = (K.sight look.now).values cell in
+        IfSome result (λ b. in_range value ≡ if b then item.Is (pos 0) ∷ [] else []) }
+{
+    match look.value(cell) {
+        ValueRef::Blank => Some(false),
+        ValueRef::Str(_) => Some(true),
+        ValueRef::Num(_) | ValueRef::Err | ValueRef::Na => None,
+    }
+}
+
+// Adds a cell to what is held; false where it is ERR or NA, or where there is no room.
+#[inline(always)]
+fn hold_cell<K: Look>(held: &mut Held, cell: Cell, look: &K) -> bool
+    ensures { let value = (K.sight look.now).values cell in
+        result ≡ true → (l : List Item) → IsHeld held.old l → IsHeld held.new (l ++ in_range value) }
+{
+    match look.number(cell) {
+        Some(number) => add_number(held, number),
+        None => match is_label(cell, look) {
+            Some(true) => add_number(held, Fixed::ZERO),
+            Some(false) => true,
+            None => false,
+        },
+    }
+}
+
+// Gives back what is held, both sums in one; false where there is no room.
+#[inline(always)]
+fn give_back(total: &mut Total, held: Held) -> bool
+    ensures { result ≡ true → (l : List Item) → IsHeld held l → IsTotal total.new l }
+{
+    let Some(sum) = held.total.sum.checked_add(i128::from(held.apart)) else {
+        return false;
+    };
+    *total = held.total;
+    total.sum = sum;
+    true
+}
+
+// Adds the cells of a narrow range from a row on up to another, however few of them are filled. What is changed by each
+// of them is held here, out of the way of all else.
+#[inline(never)]
+fn add_narrow<K: Look>(total: &mut Total, span: Span, from: u16, to: u16, look: &K) -> bool
+    requires rows { from ≤ to }
+    requires inside { to ≤ height_of span }
+    ensures { let so_far = so_far (K.sight look.now).values span in
+        result ≡ true → IsTotal total.old (so_far from) → IsTotal total.new (so_far to) }
+{
+    let width = span.width();
+    let mut held = Held {
+        total: *total,
+        apart: 0,
+    };
+    let mut row = from;
+    let mut col = 0;
+    while row < to {
+        if !hold_cell(&mut held, cell_at(span, row, col), look) {
+            return false;
+        }
+        col += 1;
+        if col == width {
+            col = 0;
+            row += 1;
+        }
+    }
+    give_back(total, held)
+}
+
 // Adds the cells of a range from a row on up to another; false also where few of them are filled. A narrow range's
 // cells of a band may all be blank.
 fn add_rows<K: Look>(total: &mut Total, span: Span, from: u16, to: u16, look: &K) -> bool
@@ -196,7 +298,10 @@ fn add_rows<K: Look>(total: &mut Total, span: Span, from: u16, to: u16, look: &K
         result ≡ true → IsTotal total.old (so_far from) → IsTotal total.new (so_far to) }
 {
     if usize::from(span.width()) <= MOST_BLANK / usize::from(BAND) {
-        return add_narrow(total, span, from, to, look);
+        if to - from > FEW {
+            return add_narrow(total, span, from, to, look);
+        }
+        return add_few(total, span, from, to, look);
     }
     for row in from..to {
         if is_sparse(row - from, span.width(), total.count) || !add_row(total, span, row, look) {
