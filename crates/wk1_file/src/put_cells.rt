@@ -242,7 +242,8 @@ fn put_value(cell: Cell, state: &CellState, into: &mut Vec<u8>) -> Result<(), Me
     }
 }
 
-// Adds the records of a formula and of its value.
+// Adds the records of a formula and of its value. It is a function of its own, so that the other cells' code is short.
+#[inline(never)]
 fn put_formula(
     cell: Cell,
     state: &CellState,

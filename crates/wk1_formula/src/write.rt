@@ -148,6 +148,32 @@ fn put_span(first: Ref, last: Ref, at: Cell, into: &mut Vec<u8>) -> Result<(), M
     )
 }
 
+// Adds the codes of two references with an operator between them, all at once.
+#[inline(always)]
+fn put_cells(op: Op, left: Ref, right: Ref, at: Cell, into: &mut Vec<u8>) -> Result<(), Memory>
+    ensures { OnOk result (into.new.items
+        ≡ into.old.items ++ spelled at (reference left ∷ reference right ∷ operator op ∷ [])) }
+{
+    let [left_col, left_col_high, left_row, left_row_high] = placed(left, at);
+    let [right_col, right_col_high, right_row, right_row_high] = placed(right, at);
+    put(
+        &[
+            opcodes::REFERENCE,
+            left_col,
+            left_col_high,
+            left_row,
+            left_row_high,
+            opcodes::REFERENCE,
+            right_col,
+            right_col_high,
+            right_row,
+            right_row_high,
+            op_code(op),
+        ],
+        into,
+    )
+}
+
 // The code of what stands over one operand.
 fn over_code(one: One) -> u8
     ensures { (at : Place) → bytes_of at (code_over one) ≡ result ∷ [] }
@@ -192,8 +218,10 @@ fn put_over(one: One, inner: &Expr, at: Cell, into: &mut Vec<u8>) -> Result<(), 
     put_byte(over_code(one), into)
 }
 
-// Adds the codes of two trees with an operator between them.
+// Adds the codes of two trees with an operator between them. Those of two references, which most are, come without a
+// call.
 #[cycle(put_tree)]
+#[inline(always)]
 fn put_between(
     op: Op,
     left: &Expr,
@@ -206,9 +234,14 @@ fn put_between(
     ensures { OnOk result (into.new.items ≡ into.old.items
         ++ spelled at (postfix (tree_of left.now) ++ (postfix (tree_of right.now) ++ operator op ∷ []))) }
 {
-    put_operand(left, at, into)?;
-    put_operand(right, at, into)?;
-    put_byte(op_code(op), into)
+    match (left, right) {
+        (Expr::Cell(first), Expr::Cell(second)) => put_cells(op, *first, *second, at, into),
+        _ => {
+            put_operand(left, at, into)?;
+            put_operand(right, at, into)?;
+            put_byte(op_code(op), into)
+        }
+    }
 }
 
 // Adds the codes of a tree as `put_tree` does, and those of a reference, which most are, without a call.
@@ -237,11 +270,24 @@ fn put_trees(args: &[Expr], at: Cell, into: &mut Vec<u8>) -> Result<(), Memory>
     Ok(())
 }
 
+// Adds the codes of a formula's tree as `put_tree` does, and those of two operands without its call.
+#[inline(always)]
+fn put_whole(expr: &Expr, at: Cell, into: &mut Vec<u8>) -> Result<(), Memory>
+    requires { every is_counted (tree_of expr.now) ≡ true }
+    ensures { OnOk result (into.new.items ≡ into.old.items ++ spelled at (postfix (tree_of expr.now))) }
+{
+    match expr {
+        Expr::Binary(op, left, right) => put_between(*op, left, right, at, into),
+        whole => put_tree(whole, at, into),
+    }
+}
+
 /// Adds the code of a formula that stands in a cell. After `Memory` a part of it may have been added.
+#[inline(always)]
 pub fn write_code(formula: &Formula, at: Cell, into: &mut Vec<u8>) -> Result<(), Memory>
     ensures { OnOk result (into.new.items ≡ into.old.items ++ code_of formula.now at) }
 {
     into.reserve(CODE_ROOM)?;
-    put_tree(formula.expr(), at, into)?;
+    put_whole(formula.expr(), at, into)?;
     put_byte(opcodes::FINISH, into)
 }
