@@ -1,5 +1,5 @@
 // The codes that were read lately.
-ghost use Rattle.std.specs.Prelude.{◌≡◌, ◌≤◌, IfSome, IfOk, Ok, length};
+ghost use Rattle.std.specs.Prelude.{◌≡◌, ◌≤◌, IfSome, Ok, true, length};
 ghost use Rattle.wk1_formula.specs.Stack.{tree_in, Gives};
 
 use formula_tree::Formula;
@@ -7,7 +7,7 @@ use lics_text::Memory;
 use std::alloc::Global;
 use std::marker::Model;
 use std::mem::replace;
-use wk1_formula::{CodeFault, read_code};
+use wk1_formula::{CodeFault, bytes_from, first_long, read_code};
 
 /// How many codes are kept.
 const PLACES: usize = 1024;
@@ -20,6 +20,33 @@ const HASH_BASIS: u64 = 14_695_981_039_346_656_037;
 
 /// What that hash is multiplied by at each byte.
 const HASH_PRIME: u64 = 1_099_511_628_211;
+
+// Whether bytes that are 8 to 16 are the same, by the first eight and the last eight.
+fn are_both_ends_same(a: &[u8], b: &[u8]) -> bool
+    requires least { 8 ≤ length a.now }
+    requires most { length a.now ≤ 16 }
+    requires same { length a.now ≡ length b.now }
+    ensures { result ≡ true → a.now ≡ b.now }
+{
+    let last = a.len() - 8;
+    first_long(a) == first_long(b)
+        && first_long(bytes_from(a, last)) == first_long(bytes_from(b, last))
+}
+
+// Whether two codes are one.
+#[inline(always)]
+fn is_same_code(a: &[u8], b: &[u8]) -> bool
+    ensures { result ≡ true → a.now ≡ b.now }
+{
+    if a.len() != b.len() {
+        return false;
+    }
+    if a.len() >= 8 && a.len() <= 16 {
+        are_both_ends_same(a, b)
+    } else {
+        a == b
+    }
+}
 
 // A code that was read, with its formula.
 #[derive(Drop)]
@@ -50,14 +77,25 @@ impl ReadCode {
     }
 
     // The formula, if it is the code's.
+    #[inline(always)]
     fn formula_of(&self, code: &[u8]) -> Option<&Formula>
         ensures { IfSome result (λ f. tree_in code.now ≡ Ok f.now) }
     {
-        if self.code.as_slice() == code {
+        if is_same_code(self.code.as_slice(), code) {
             Some(&self.formula)
         } else {
             None
         }
+    }
+}
+
+// The same formula again.
+fn copied(formula: &Formula) -> Result<Formula, CodeFault>
+    ensures { Gives result (Ok formula.now) }
+{
+    match formula.copy() {
+        Ok(formula) => Ok(formula),
+        Err(Memory) => Err(CodeFault::Memory),
     }
 }
 
@@ -91,22 +129,13 @@ impl ReadCodes {
     }
 
     // The formula of a code, if it is kept in this place.
+    #[inline(always)]
     fn kept_at(&self, place: usize, code: &[u8]) -> Option<&Formula>
         ensures { IfSome result (λ f. tree_in code.now ≡ Ok f.now) }
     {
         match self.places.get(place) {
             Some(Some(read)) => read.formula_of(code),
             Some(None) | None => None,
-        }
-    }
-
-    // The formula of a code that is kept.
-    fn kept(&self, code: &[u8]) -> Option<&Formula>
-        ensures { IfSome result (λ f. tree_in code.now ≡ Ok f.now) }
-    {
-        match self.kept_at(self.last, code) {
-            Some(formula) => Some(formula),
-            None => self.kept_at(place_of(code), code),
         }
     }
 
@@ -143,21 +172,31 @@ impl ReadCodes {
         Ok(formula)
     }
 
-    /// The formula of a code of at most 65,535 bytes, or the fault that `read_code` tells. Where the same bytes were
-    /// read lately, it shares their tree.
-    pub fn read(&mut self, code: &[u8]) -> Result<Formula, CodeFault>
+    // The formula of a code that is not the last one's.
+    #[inline(never)]
+    fn read_other(&mut self, code: &[u8]) -> Result<Formula, CodeFault>
         requires { length code.now ≤ 65535 }
         ensures { Gives result (tree_in code.now) }
     {
         if code.len() > MOST_KEPT {
             return read_code(self.alloc, code);
         }
-        if let Some(formula) = self.kept(code) {
-            return match formula.copy() {
-                Ok(formula) => Ok(formula),
-                Err(Memory) => Err(CodeFault::Memory),
-            };
+        match self.kept_at(place_of(code), code) {
+            Some(formula) => copied(formula),
+            None => self.read_new(code),
         }
-        self.read_new(code)
+    }
+
+    /// The formula of a code of at most 65,535 bytes, or the fault that `read_code` tells. Where the same bytes were
+    /// read lately, it shares their tree; those that were read last are found without a call.
+    #[inline(always)]
+    pub fn read(&mut self, code: &[u8]) -> Result<Formula, CodeFault>
+        requires { length code.now ≤ 65535 }
+        ensures { Gives result (tree_in code.now) }
+    {
+        match self.kept_at(self.last, code) {
+            Some(formula) => copied(formula),
+            None => self.read_other(code),
+        }
     }
 }
