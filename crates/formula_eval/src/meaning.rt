@@ -1,5 +1,7 @@
 // From a formula to its value.
-ghost use Rattle.std.specs.Prelude.{◌≡◌, ◌+◌, ◌-◌, ◌^◌, min, IfOk};
+ghost use Rattle.std.specs.Prelude.{◌≡◌, ◌+◌, ◌-◌, ◌^◌, min, IfOk, IfSome};
+ghost use Rattle.formula_tree.specs.declared.value.Value.TheVariants as value;
+ghost use Rattle.formula_parts.specs.declared.look.Scene.{Scene};
 ghost use Rattle.formula_parts.specs.inner.Kept.{IsKept};
 ghost use Rattle.formula_eval.specs.Mean.{mean};
 ghost use Rattle.formula_parts.specs.Parts.{filled_in};
@@ -7,7 +9,10 @@ ghost use Rattle.formula_parts.specs.Outlook.{Sight};
 ghost use Rattle.formula_parts.specs.Scenes.{outlook_of};
 ghost use Rattle.formula_parts.specs.Standpoints.{outlook_from};
 
-use formula_parts::{Kept, Look, Scene, Standpoint, composed, filled_in, number_of, value_of};
+use fixed_value::Fixed;
+use formula_parts::{
+    Kept, Look, Scene, Standpoint, composed, filled_in, number_within, plain_number, value_of,
+};
 use formula_tree::{Formula, Value};
 use grid_address::Cell;
 use lics_text::Memory;
@@ -32,6 +37,14 @@ impl Tally {
         ensures { result ≡ self.now.count }
     {
         self.count
+    }
+
+    // Counts an evaluation.
+    #[inline(always)]
+    pub(crate) fn count_one(&mut self)
+        ensures { self.new.count ≡ min (self.old.count + 1) (2 ^ 64 - 1) }
+    {
+        self.count = self.count.saturating_add(1);
     }
 }
 
@@ -65,6 +78,17 @@ fn other_value<K: Look>(formula: &Formula, from: &Standpoint<'_, K>) -> Result<V
     Ok(filled_in(value))
 }
 
+/// The number of a formula that is an operator between two parts that are numbers, or cells with one; none for any
+/// other formula.
+#[inline(always)]
+#[tactic(auto, unfolding(crate::specs::Mean::mean))]
+pub fn number<K: Look>(formula: &Formula, at: Cell, look: &K) -> Option<Fixed>
+    ensures { IfSome result
+        (λ n. (s : Scene) → mean formula.now at (outlook_of (K.sight look.now) s) ≡ value.Num n) }
+{
+    plain_number(formula.expr(), at, look)
+}
+
 /// The value of a formula that stands in a cell, by what it looks at and what was kept of that. The tally rises by one,
 /// or stays at its last. A formula of numbers alone is evaluated without the stack that others take.
 #[inline(always)]
@@ -82,8 +106,8 @@ pub fn evaluate<K: Look>(
     ensures counted { tally.new.count ≡ min (tally.old.count + 1) (2 ^ 64 - 1) }
     ensures kept { IsKept kept.new (K.sight look.now).values }
 {
-    tally.count = tally.count.saturating_add(1);
-    match number_of(formula.expr(), at, look, kept) {
+    tally.count_one();
+    match number_within(formula.expr(), at, look, kept) {
         Some(number) => Ok(Value::Num(number)),
         None => {
             let from = Standpoint {

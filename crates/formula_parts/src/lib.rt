@@ -25,6 +25,6 @@ pub use lists::total_in;
 pub use look::{Look, Scene};
 pub use lookups::{place_in, range_of};
 pub use meaning::{composed, filled_in, glance_within, value_of};
-pub use numbers::number_of;
+pub use numbers::{number_within, plain_number};
 pub use standpoint::Standpoint;
 pub use totals::{Total, value_for};

@@ -81,10 +81,10 @@ fn call_number<K: Look>(
     }
 }
 
-// The number of an operator between two parts that are numbers, or cells with one, as most formulas are; none for any
-// other part.
+/// The number of an operator between two parts that are numbers, or cells with one, as most formulas are; none for any
+/// other part.
 #[inline(always)]
-fn plain_number<K: Look>(expr: &Expr, at: Cell, look: &K) -> Option<Fixed>
+pub fn plain_number<K: Look>(expr: &Expr, at: Cell, look: &K) -> Option<Fixed>
     ensures { IfSome result (IsNumber (tree_of expr.now) at (K.sight look.now)) }
 {
     match expr {
@@ -98,8 +98,9 @@ fn plain_number<K: Look>(expr: &Expr, at: Cell, look: &K) -> Option<Fixed>
     }
 }
 
-// The number of a part that is made of numbers, by those of its parts.
-fn number_within<K: Look>(expr: &Expr, at: Cell, look: &K, kept: &mut Kept) -> Option<Fixed>
+/// The number of a part that is made of numbers, by those of its parts; none where it has none, or where one of them
+/// is found otherwise. It spares time alone, and so does what is kept.
+pub fn number_within<K: Look>(expr: &Expr, at: Cell, look: &K, kept: &mut Kept) -> Option<Fixed>
     requires { IsKept kept.old (K.sight look.now).values }
     ensures number { IfSome result (IsNumber (tree_of expr.now) at (K.sight look.now)) }
     ensures kept { IsKept kept.new (K.sight look.now).values }

@@ -1,10 +1,10 @@
 // Evaluation of formulas in the cells of a store.
-ghost use Rattle.std.specs.Prelude.{◌≡◌, ◌*◌, Bool, length, OnErr, OnOk, true};
+ghost use Rattle.std.specs.Prelude.{◌≡◌, ◌*◌, Bool, length, IfOk, OnErr, OnOk, true};
 ghost use Rattle.grid_address.specs.Place.{same_place, Place};
 ghost use Rattle.cell_maps.specs.Sets.{has};
 ghost use Rattle.formula_parts.specs.inner.Kept.{IsKept};
-ghost use Rattle.recalculation.specs.Context.{seen_context};
 ghost use Rattle.sheet_store.specs.Grid.{value_at};
+ghost use Rattle.recalculation.specs.Context.{outlook_at, seen_context};
 ghost use Rattle.recalculation.specs.Passes.{evaluated, pass, passes, raised_by, IsSound, SameContents, SameOutside};
 ghost use Rattle.recalculation.specs.Reading.{is_formula_at};
 
@@ -12,7 +12,7 @@ use crate::View;
 use crate::context::ContextRef;
 use formula_eval::Means;
 use formula_parts::Kept;
-use formula_tree::ContentRef;
+use formula_tree::{ContentRef, Formula, Value};
 use grid_address::Cell;
 use lics_text::Memory;
 use sheet_store::Store;
@@ -34,6 +34,29 @@ pub fn evaluate_at<E: Means>(
     evaluate_next(store, cell, context, tally, &mut kept)?;
     store.give_kept(kept);
     Ok(())
+}
+
+// The meaning of a formula that isn't found as a number first. What it looks at is put together for it alone.
+fn other_value<E: Means>(
+    store: &Store,
+    formula: &Formula,
+    cell: Cell,
+    context: &ContextRef<'_>,
+    tally: &mut E,
+    kept: &mut Kept,
+) -> Result<Value, Memory>
+    requires { IsKept kept.old (value_at store.now) }
+    ensures value { IfOk result
+        (λ v. v ≡ E.meaning formula.now cell (outlook_at (seen_context context.now) store.now)) }
+    ensures count { OnOk result (E.count tally.new ≡ raised_by 1 (E.count tally.old)) }
+    ensures kept { OnOk result (IsKept kept.new (value_at store.now)) }
+{
+    let view = View {
+        store,
+        names: context.names,
+        settings: context.settings,
+    };
+    tally.evaluate(formula, cell, &view, context.scene, kept)
 }
 
 // The same behind other evaluations, with what they kept of the values as they stand.
@@ -63,7 +86,13 @@ fn evaluate_next<E: Means>(
         names: context.names,
         settings: context.settings,
     };
-    let value = tally.evaluate(formula, cell, &view, context.scene, kept)?;
+    if let Some(number) = tally.number(formula, cell, &view) {
+        store.set_value(cell, Value::Num(number));
+        tally.rise();
+        kept.forget(cell);
+        return Ok(());
+    }
+    let value = other_value(store, formula, cell, context, tally, kept)?;
     store.set_value(cell, value);
     kept.forget(cell);
     Ok(())

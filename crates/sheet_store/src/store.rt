@@ -145,6 +145,7 @@ impl Store {
     }
 
     /// The state of a cell.
+    #[inline(always)]
     pub fn get(&self, cell: Cell) -> Option<&CellState>
         ensures { option_copied result ≡ map.get self.now.cells cell }
     {
@@ -337,11 +338,11 @@ impl Store {
         requires some { value ≡ Value.Blank → ⊥ }
         ensures { self.new ≡ set_value_at self.old cell value }
     {
-        self.kept.forget(cell);
         match self.cells.get_mut(cell) {
             Some(state) => state.set_value(value),
             None => let_go(value),
         }
+        self.kept.forget(cell);
     }
 }
 

@@ -3,6 +3,7 @@ use Rattle.std.proofs.Common.{ap, sym, ◌∙◌, subst}
 use Rattle.std.specs.FinMap.{get, insert}
 use Rattle.std.proofs.lemmas.Bool.{false≢true}
 use Rattle.std.proofs.lemmas.Option.{same_Some}
+use Rattle.formula_parts.specs.inner.Kept.{IsKept}
 use Rattle.sheet_store.specs.Grid.{is_formula, value_in, Grid, IsHeld}
 use Rattle.sheet_store.specs.inner.Keeping.{Keeps}
 use Rattle.sheet_store.specs.State.{CellState}
@@ -26,10 +27,11 @@ invariant_of-self c = elim c.match-get_mut.branch [
       subst (λ (x : CellState). is_formula x.content ≡ true) known c.requires.formula.2 in
       let here : IsHeld c.args.cell written =
       valued_held c.args.cell s c.args.value (c.self.invariant.held c.args.cell s found) formula c.requires.some in
-      subst (λ (i : Inside). Keeps i.cells i.kept) (sym w.self-inside-is)
+      subst (λ (i : Inside). Keeps i.cells c.forget.new.self) (sym w.self-inside-is)
       (subst (λ (x : CellState). Keeps (insert old c.args.cell x) c.forget.new.self) (sym w.set_value.ensures)
       (put_in old c.args.cell c.self.inside.kept c.forget.new.self c.self.invariant written here
-      (λ others is takes same. c.forget.ensures (value_in old) others is same)))
+      (λ others is takes same. c.forget.ensures (value_in old) others
+      (subst (λ (i : Inside). IsKept i.kept (value_in old)) (sym w.self-inside-is) is) same)))
   | in-None w ↦
       let none : None ≡ get c.args.self.now.cells c.args.cell =
       w.in-None.ensures.value ∙ ap (λ (g : Grid). get g.cells c.args.cell) c.self.view_is in
