@@ -53,6 +53,7 @@ impl<'a> Look for View<'a> {
         value_of(self.store, cell)
     }
 
+    #[inline(always)]
     fn number(&self, cell: Cell) -> Option<Fixed> {
         number_of(self.store, cell)
     }
