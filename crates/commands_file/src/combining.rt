@@ -4,7 +4,7 @@ ghost use Rattle.std.specs.FinMap as map;
 ghost use Rattle.std.specs.List.{list_any};
 ghost use Rattle.command_desk.specs.Acting.{HasActedBy};
 ghost use Rattle.commands_file.specs.Combined.{combined, combined_writes, is_number, is_taken, leaves_sheet};
-ghost use Rattle.commands_file.specs.Combined.{number_held, number_or_err, placed, total, totalled, used_span, write_at, write_of};
+ghost use Rattle.commands_file.specs.Combined.{number_held, placed, total, totalled, used_span, write_at, write_of};
 ghost use Rattle.work_sheet.specs.Seen.{of_worksheet};
 
 use block_writes::{content_of, written};
@@ -94,16 +94,6 @@ fn total(kind: Combining, here: Fixed, number: Fixed) -> Option<Fixed>
     }
 }
 
-// A number as a content; one beyond the size is `@ERR`.
-fn number_or_err(alloc: Global, number: Option<Fixed>) -> Result<Content, Memory>
-    ensures { IfOk result (λ content. content ≡ number_or_err number) }
-{
-    match number {
-        Some(number) => Ok(Content::Number(number)),
-        None => content_of(alloc, &ValueRef::Err),
-    }
-}
-
 // Adds a file's content and format for a cell.
 fn push_copy(writes: &mut Writes, cell: Cell, state: &CellState) -> Result<(), Memory>
     ensures { OnOk result (writes.new ≡ writes.old
@@ -134,8 +124,13 @@ fn push_total(
     let Some(here) = number_held(sheet, cell) else {
         return Ok(());
     };
-    let content = number_or_err(sheet.alloc(), total(kind, here, number))?;
-    writes.push(written(cell, content))
+    match total(kind, here, number) {
+        Some(sum) => writes.push(written(cell, Content::Number(sum))),
+        None => {
+            let err = content_of(sheet.alloc(), &ValueRef::Err)?;
+            writes.push(written(cell, err))
+        }
+    }
 }
 
 // Adds what is written of a file's cell that is taken, where it stands in the sheet.
