@@ -57,6 +57,7 @@ impl<'a> Model for Entries<'a> {
 
 impl<'a> Entries<'a> {
     /// The next cell and its state; none exactly where all have come. It takes no memory.
+    #[inline(always)]
     pub fn next(&mut self) -> Option<(Cell, &'a CellState)>
         ensures some { IfSome result (λ entry. self.old ≡ (entry.0, entry.1.now) ∷ self.new) }
         ensures none { IfNone result (self.old ≡ []) }
@@ -185,6 +186,7 @@ fn place_past(store: &Store, place: Cell, edge: Edge) -> Option<Cell>
 }
 
 // The first cell with a state from a place on.
+#[inline(never)]
 fn first_from<'a>(
     store: &'a Store,
     from: Option<Cell>,
