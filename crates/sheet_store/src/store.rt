@@ -9,7 +9,7 @@ ghost use Rattle.formula_parts.specs.declared.items.Item.TheVariants as item;
 ghost use Rattle.formula_parts.specs.Lists.{in_range};
 ghost use Rattle.formula_parts.specs.inner.Kept.{IsKept};
 ghost use Rattle.sheet_store.specs.inner.Copies.{inserted_all};
-ghost use Rattle.sheet_store.specs.Grid.{any_state, cells_within, clear_cell, formatted, formulas, formulas_within, further, holds_formula, is_hidden, last_among, last_used, picked, put_state, set_format_of, set_hidden_of, set_value_at, set_width_of, value_at, value_in, width_of, AreHeld, HasFormula, IsSound};
+ghost use Rattle.sheet_store.specs.Grid.{any_state, cells_within, clear_cell, formatted, formulas, formulas_within, further, holds_formula, is_hidden, last_among, last_used, picked, put_state, set_format_of, set_hidden_of, set_value_at, set_width_of, value_at, value_in, width_of, AreHeld, Cells, HasFormula, IsSound};
 ghost use Rattle.sheet_store.specs.inner.Contents.{HasContent, IsBlankAt};
 ghost use Rattle.sheet_store.specs.inner.Keeping.{AlwaysHolds, GoesOn, GoesOnWith};
 
@@ -368,32 +368,36 @@ fn tell(kept: &mut Kept, cells: &CellMap<CellState>, cell: Cell, state: &CellSta
     if kept.is_nothing() {
         return;
     }
-    tell_change(kept, cells, cell, state);
+    match counted(state) {
+        Some(number) => tell_number(kept, cells, cell, number),
+        None => tell_other(kept, cell),
+    }
 }
 
-// The same where something is kept.
+// The same where something is kept, of a state that counts for a number.
 #[inline(never)]
-fn tell_change(kept: &mut Kept, cells: &CellMap<CellState>, cell: Cell, state: &CellState)
-    ensures { GoesOn kept.old kept.new cells.now cell state.now.value }
+fn tell_number(kept: &mut Kept, cells: &CellMap<CellState>, cell: Cell, number: Fixed)
+    ensures { GoesOnWith kept.old kept.new cells.now cell number }
 {
     if !kept.hangs_on(cell) {
         return;
     }
-    match counted(state) {
-        Some(number) => tell_number(kept, cells, cell, number),
-        None => let_all_go(kept),
-    }
-}
-
-// The same of a state that counts for a number.
-fn tell_number(kept: &mut Kept, cells: &CellMap<CellState>, cell: Cell, number: Fixed)
-    ensures { GoesOnWith kept.old kept.new cells.now cell number }
-{
     if !is_blank_in(cells, cell) {
         let_all_go(kept);
         return;
     }
     kept.fill(cell, number);
+}
+
+// The same of a state with whatever value.
+#[inline(never)]
+fn tell_other(kept: &mut Kept, cell: Cell)
+    ensures { (cells : Cells) (value : Value) → GoesOn kept.old kept.new cells cell value }
+{
+    if !kept.hangs_on(cell) {
+        return;
+    }
+    let_all_go(kept);
 }
 
 // Keeps nothing any more.
@@ -418,6 +422,7 @@ fn is_blank_in(cells: &CellMap<CellState>, cell: Cell) -> bool
 }
 
 // The number that a state counts for in a range, where it counts for one.
+#[inline(always)]
 fn counted(state: &CellState) -> Option<Fixed>
     ensures { IfSome result (λ n. in_range state.now.value ≡ item.Is n ∷ []) }
 {
