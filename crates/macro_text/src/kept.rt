@@ -11,6 +11,7 @@ use key_words::{Arguments, MacroWord, unit_at};
 use lics_text::{Line, Memory};
 use std::alloc::Global;
 use std::marker::Model;
+use std::mem::swap;
 
 /// A word that stands at an offset, the offset behind it, and its arguments, where it is a command.
 #[derive(Drop)]
@@ -21,14 +22,16 @@ pub struct KeptWord {
     pub args: ReadArguments,
 }
 
-/// The words that were read from a text, which are used only while the text is the same.
+// The words that were read from a text, which are used only while the text is the same.
 #[derive(Drop)]
-pub struct KeptWords {
+pub struct TextWords {
     text: Line,
     words: Vec<KeptWord>,
+    // Where the word stands among them that was asked for last.
+    last: usize,
 }
 
-impl Model for KeptWords {
+impl Model for TextWords {
     ghost use Rattle.std.specs.Prelude.{ℕ, List};
     ghost use Rattle.macro_text.specs.inner.Words.{AreWordsOf};
 
@@ -37,6 +40,31 @@ impl Model for KeptWords {
     ghost view = { λ k. k.text };
 
     ghost invariant = { λ k. AreWordsOf k.text k.words.items };
+}
+
+/// The words that were read from the text at hand, and those of the texts of other cells.
+#[derive(Drop)]
+pub struct KeptWords {
+    hand: TextWords,
+    // Where the words at hand have their place among the others.
+    place: usize,
+    others: Vec<TextWords>,
+}
+
+impl Model for KeptWords {
+    ghost use Rattle.std.specs.Prelude.{ℕ, List};
+
+    ghost Value = { List ℕ };
+
+    ghost view = { λ k. k.hand };
+}
+
+/// How many texts have places.
+const PLACES: usize = 64;
+
+// The place of the words of a cell's text; cells that lie near one another have places of their own.
+fn place_of(cell: Cell) -> usize {
+    (usize::from(cell.row) + 8 * usize::from(cell.col)) % PLACES
 }
 
 // The arguments that a command's word lists.
@@ -65,25 +93,42 @@ fn read_arguments(
     ReadArguments::of(alloc, list, cell)
 }
 
-impl KeptWords {
-    /// None, of the empty text.
-    pub fn new(alloc: Global) -> KeptWords {
-        KeptWords {
+impl TextWords {
+    // None, of the empty text.
+    fn new(alloc: Global) -> TextWords {
+        TextWords {
             text: Line::new(),
             words: Vec::new(alloc),
+            last: 0,
         }
     }
 
-    // The word at an offset, if it was read.
-    fn find(&self, offset: usize) -> Option<(MacroWord, usize)>
-        ensures { IfSome result (λ w. w ≡ unit_at self.now offset) }
+    // The word that has this place among them, if it stands at this offset.
+    fn placed(&self, place: usize, offset: usize) -> Option<&KeptWord>
+        ensures { IfSome result (λ k. (unit_at self.now offset ≡ (k.now.word, k.now.end))
+            × (k.now.args ≡ arguments_in self.now k.now.word)) }
     {
-        for kept in &self.words {
-            if kept.at == offset {
-                return Some((kept.word, kept.end));
+        match self.words.get(place) {
+            Some(kept) => { if kept.at == offset { Some(kept) } else { None } }
+            None => None,
+        }
+    }
+
+    // The place behind that of the word that was asked for last, and behind the end the first one.
+    fn next_place(&self) -> usize {
+        let next = self.last.wrapping_add(1);
+        if next < self.words.len() { next } else { 0 }
+    }
+
+    // The place of the word at an offset, and the end where there is none.
+    #[inline(never)]
+    fn place_at(&self, offset: usize) -> usize {
+        for place in 0..self.words.len() {
+            if self.words[place].at == offset {
+                return place;
             }
         }
-        None
+        self.words.len()
     }
 
     // Whether the words are those of this text.
@@ -120,6 +165,7 @@ impl KeptWords {
         ensures { self.new ≡ self.old }
     {
         let word = *word;
+        self.last = self.words.len();
         self.words.push(KeptWord {
             at,
             word,
@@ -130,61 +176,118 @@ impl KeptWords {
     }
 
     // Reads the word at an offset of the text, which stands in a cell, and keeps it with its arguments.
+    #[inline(never)]
     fn read_at(
         &mut self,
         text: &[u8],
         offset: usize,
         cell: Cell,
         alloc: Global,
-    ) -> Result<(MacroWord, usize), Memory>
+    ) -> Result<(), Memory>
         requires text { IsText text.now }
         requires kept { self.old ≡ text.now }
-        ensures word { IfOk result (λ w. w ≡ unit_at text.now offset) }
-        ensures text { OnOk result (self.new ≡ text.now) }
+        ensures { OnOk result (self.new ≡ text.now) }
     {
         let (word, end) = unit_at(text, offset);
         let args = read_arguments(alloc, text, &word, cell)?;
-        self.keep(offset, &word, end, args)?;
-        Ok((word, end))
+        self.keep(offset, &word, end, args)
     }
 
-    /// The word at an offset of a text that stands in a cell, and the offset behind it, as `unit_at` of key_words tells
-    /// them. It is kept, with its arguments.
-    pub fn word_at(
+    // The word at an offset of the text, which stands in a cell, is asked for, and kept: mostly it is the next one.
+    fn come_to(
+        &mut self,
+        cell: Cell,
+        offset: usize,
+        text: &[u8],
+        alloc: Global,
+    ) -> Result<(), Memory>
+        requires kept { self.old ≡ text.now }
+        requires text { IsText text.now }
+        ensures { OnOk result (self.new ≡ text.now) }
+    {
+        let next = self.next_place();
+        if self.placed(next, offset).is_some() {
+            self.last = next;
+            return Ok(());
+        }
+        self.last = self.place_at(offset);
+        if self.last < self.words.len() {
+            return Ok(());
+        }
+        self.read_at(text, offset, cell, alloc)
+    }
+}
+
+impl KeptWords {
+    /// None, of the empty text.
+    pub fn new(alloc: Global) -> KeptWords {
+        KeptWords {
+            hand: TextWords::new(alloc),
+            place: 0,
+            others: Vec::new(alloc),
+        }
+    }
+
+    // The words in the place come to hand, and those at hand go there.
+    fn change(&mut self) {
+        if let Some(words) = self.others.get_mut(self.place) {
+            swap(words, &mut self.hand);
+        }
+    }
+
+    // The words in the place of a cell come to hand, and those at hand go back to their place.
+    fn turn_to(&mut self, alloc: Global, cell: Cell) -> Result<(), Memory> {
+        for _ in self.others.len()..PLACES {
+            self.others.push(TextWords::new(alloc))?;
+        }
+        self.change();
+        self.place = place_of(cell);
+        self.change();
+        Ok(())
+    }
+
+    // The words of the text in a cell come to hand, those that were kept of it, or none.
+    #[inline(never)]
+    fn follow(&mut self, alloc: Global, text: &[u8], cell: Cell) -> Result<(), Memory>
+        requires { IsText text.now }
+        ensures { OnOk result (self.new ≡ text.now) }
+    {
+        self.turn_to(alloc, cell)?;
+        self.hand.follow(text);
+        Ok(())
+    }
+
+    /// Comes to the word at an offset of a text that stands in a cell, which `kept_at` then tells. It is kept, with its
+    /// arguments.
+    pub fn come_to(
         &mut self,
         alloc: Global,
         text: &[u8],
         offset: usize,
         cell: Cell,
-    ) -> Result<(MacroWord, usize), Memory>
+    ) -> Result<(), Memory>
         requires { IsText text.now }
-        ensures word { IfOk result (λ w. w ≡ unit_at text.now offset) }
-        ensures text { OnOk result (self.new ≡ text.now) }
+        ensures { OnOk result (self.new ≡ text.now) }
     {
-        self.follow(text);
-        match self.find(offset) {
-            Some(found) => Ok(found),
-            None => self.read_at(text, offset, cell, alloc),
+        if !self.hand.is_of(text) {
+            self.follow(alloc, text, cell)?;
         }
+        self.hand.come_to(cell, offset, text, alloc)
     }
 
     /// The text.
     pub fn text(&self) -> &[u8]
         ensures { result.now ≡ self.now }
     {
-        self.text.bytes()
+        self.hand.text.bytes()
     }
 
-    /// The word at an offset of the text with its arguments, if it is kept.
+    /// The word at an offset of the text with its arguments, where it is the one that was come to last.
     pub fn kept_at(&self, offset: usize) -> Option<&KeptWord>
-        ensures { IfSome result (λ k. (k.now.word ≡ (unit_at self.now offset).0)
+        ensures word { IfSome result (λ k. (k.now.word ≡ (unit_at self.now offset).0)
             × (k.now.args ≡ arguments_in self.now (unit_at self.now offset).0)) }
+        ensures end { IfSome result (λ k. k.now.end ≡ (unit_at self.now offset).1) }
     {
-        for kept in &self.words {
-            if kept.at == offset {
-                return Some(kept);
-            }
-        }
-        None
+        self.hand.placed(self.hand.last, offset)
     }
 }

@@ -1,19 +1,21 @@
 // The next unit of a macro.
-ghost use Rattle.std.specs.Prelude.{◌≡◌, IfOk, IfSome, Some};
+ghost use Rattle.std.specs.Prelude.{◌≡◌, ◌+◌, IfOk, IfSome, Some};
 ghost use Rattle.formula_parts.specs.Scenes.{outlook_of};
 ghost use Rattle.formula_text.specs.Words.{named_span};
+ghost use Rattle.key_words.specs.MacroText.{unit_at};
+ghost use Rattle.key_words.specs.declared.macro_word.MacroWord.TheVariants as words;
 ghost use Rattle.lics_text.specs.Bytes.{IsText};
 ghost use Rattle.macro_text.specs.Texts.{macro_text};
 ghost use Rattle.macro_text.specs.Units as spec;
 
 use crate::expression::{count_of, number_of};
 use crate::pieces::{macro_text, part};
-use crate::{KeptWords, Position, Spot};
+use crate::{KeptWord, KeptWords, Position, Spot};
 use fixed_value::Fixed;
 use formula_parts::{Look, Scene};
 use grid_address::{Cell, LAST_ROW};
 use key_words::{Key, MacroWord};
-use lics_text::Memory;
+use lics_text::{Memory, TextByte};
 use range_names::Names;
 use std::alloc::Global;
 
@@ -139,12 +141,11 @@ fn repeated_outcome(key: Key, number: Option<Fixed>, end: usize, position: &Posi
     }
 }
 
-// A word of a text, and the offset behind it.
+// A word of a text, which is kept.
 #[derive(Clone, Copy)]
 struct ReadWord<'a> {
     text: &'a [u8],
-    word: MacroWord,
-    end: usize,
+    kept: &'a KeptWord,
 }
 
 // What a word comes to.
@@ -155,11 +156,11 @@ fn word_outcome<K: Look>(
     position: &Position,
     read: &ReadWord<'_>,
 ) -> Result<WordOutcome, Memory>
-    ensures { let outlook = outlook_of (K.sight look.now) scene.entry.now in
-        IfOk result (λ t. t ≡ spec.word_outcome outlook read.now.text.now read.now.word read.now.end position.now) }
+    ensures { let outlook = outlook_of (K.sight look.now) scene.entry.now in let word = read.now.kept.now in
+        IfOk result (λ t. t ≡ spec.word_outcome outlook read.now.text.now word.word word.end position.now) }
 {
-    let end = read.end;
-    match read.word {
+    let end = read.kept.end;
+    match read.kept.word {
         MacroWord::Key(key) => Ok(WordOutcome::Now(Unit::Key(key), behind(end, position))),
         MacroWord::Repeated(key, cut) => {
             let number = number_of(alloc, part(read.text, cut), position.spot.cell, look, scene)?;
@@ -173,6 +174,23 @@ fn word_outcome<K: Look>(
         MacroWord::PlaceCall(_) => Ok(carried(end, position)),
         MacroWord::End => Ok(down(position)),
         MacroWord::Bad => Ok(unknown(position)),
+    }
+}
+
+// The key that the byte at an offset is by itself. None is told of a byte with which a longer word may begin.
+fn plain_key(text: &[u8], offset: usize) -> Option<Key>
+    ensures { IfSome result (λ k. unit_at text.now offset ≡ (words.Key k, offset + 1)) }
+{
+    if offset >= text.len() {
+        return None;
+    }
+    match text[offset] {
+        b'{' | b'}' | b'/' => None,
+        b'~' => Some(Key::Enter),
+        byte => match TextByte::of(byte) {
+            Some(typed) => Some(Key::Byte(typed)),
+            None => None,
+        },
     }
 }
 
@@ -195,11 +213,16 @@ fn outcome_at<K: Look>(
     };
     let bytes = text.bytes();
     let Spot { cell, offset } = position.spot;
-    let (word, end) = kept.word_at(alloc, bytes, offset, cell)?;
+    if let Some(key) = plain_key(bytes, offset) {
+        return Ok(WordOutcome::Now(Unit::Key(key), behind(offset + 1, position)));
+    }
+    kept.come_to(alloc, bytes, offset, cell)?;
+    let Some(word) = kept.kept_at(offset) else {
+        return Err(Memory);
+    };
     let read = ReadWord {
         text: bytes,
-        word,
-        end,
+        kept: word,
     };
     word_outcome(alloc, look, scene, position, &read)
 }

@@ -2,7 +2,7 @@ use Rattle.std.proofs.Common.{is_ok, ◌∙◌, ap, sym}
 use Rattle.key_words.specs.MacroText.{unit_at}
 use Rattle.macro_text.specs.Kept.{arguments_in}
 use Rattle.macro_text.proofs.Keeping.{kept_more}
-use Rattle.macro_text.proofs.kept.KeptWords.keep.Goals as goal
+use Rattle.macro_text.proofs.kept.TextWords.keep.Goals as goal
 
 pub invariant_of-self : goal.invariant_of-self
 invariant_of-self c =
