@@ -180,6 +180,13 @@ impl Engine {
                     ..
                 },
             ) => Ok(StepEnd::Moves),
+            Ok(
+                Outcome {
+                    end: StepEnd::Types(key),
+                    goes_on: true,
+                    ..
+                },
+            ) => Ok(StepEnd::Types(key)),
             Ok(Outcome { end, goes_on, .. }) => {
                 if !goes_on {
                     self.stop();
