@@ -385,8 +385,7 @@ impl Machine {
     }
 
     // What is touched behind a write into a cell of a row, where a recalculation then follows by itself: the cells of
-    // that row, and those of the formulas that are dirty. Where there are more of these than rows that are shown, they
-    // mostly lie in all of these rows, and aren't looked at.
+    // that row and of the dirty formulas. More of these than rows that are shown mostly lie in all: none is looked at.
     fn touched_behind(&self, row: u16) -> Touched
         ensures row { touches_row result self.now.state.corner.row row ≡ true }
         ensures settles { Settles result self.now.state.corner.row (sheet_of self.now.state) }
@@ -583,7 +582,7 @@ impl Machine {
         self.indicate = line;
     }
 
-    // What follows behind a macro's step, by what it came to: nothing behind most steps of a loop.
+    // What follows behind a macro's step, by what it came to: a typed key is taken, and mostly nothing follows.
     #[inline(always)]
     fn come_to<S: Shelf>(
         &mut self,
@@ -602,6 +601,7 @@ impl Machine {
         match end {
             StepEnd::Moves => Ok(UNTOUCHED),
             StepEnd::Works => Ok(UNTOUCHED),
+            StepEnd::Types(typed) => self.take(typed, now, shelf),
             other => self.come_to_other(other, now, shelf),
         }
     }
