@@ -3,4 +3,3 @@ pub mod Feeding
 pub mod Fronts
 pub mod Scanning
 pub mod Tables
-pub mod Words

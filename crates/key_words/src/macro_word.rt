@@ -129,23 +129,6 @@ fn command_or_call(command: Option<Command>, name: Cut, behind: Option<Cut>) -> 
     }
 }
 
-// The word of a name, as a key's and as a command's.
-fn named_word(
-    named: Option<Named>,
-    command: Option<Command>,
-    name: Cut,
-    behind: Option<Cut>,
-) -> MacroWord
-    ensures { result ≡ spec.named_word named command name behind }
-{
-    match named {
-        None => command_or_call(command, name, behind),
-        Some(Named::Repeated(key)) => key_word(key, behind),
-        Some(Named::Alone(_)) => command_or_call(command, name, behind),
-        Some(Named::Alt) => command_or_call(command, name, behind),
-    }
-}
-
 // What stands behind the name and its space.
 fn behind_name(at: usize, inside: &[u8]) -> Option<Cut>
     requires { at + length inside.now < 18446744073709551616 }
@@ -173,7 +156,12 @@ fn word_inside(at: usize, inside: &[u8]) -> MacroWord
         to: at + len,
     };
     let behind = behind_name(at, inside);
-    named_word(look_up(letters), command_named(letters), name, behind)
+    match look_up(letters) {
+        Some(Named::Repeated(key)) => key_word(key, behind),
+        Some(Named::Alone(_)) | Some(Named::Alt) | None => {
+            command_or_call(command_named(letters), name, behind)
+        }
+    }
 }
 
 // Behind an opening brace.
