@@ -2,4 +2,5 @@ pub mod Completing
 pub mod Feeding
 pub mod Fronts
 pub mod Scanning
+pub mod Spelling
 pub mod Tables

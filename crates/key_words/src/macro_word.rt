@@ -129,12 +129,12 @@ fn command_or_call(command: Option<Command>, name: Cut, behind: Option<Cut>) -> 
     }
 }
 
-// What stands behind the name and its space.
-fn behind_name(at: usize, inside: &[u8]) -> Option<Cut>
-    requires { at + length inside.now < 18446744073709551616 }
+// What stands behind the name, which is so long, and its space.
+fn behind_name(at: usize, inside: &[u8], len: usize) -> Option<Cut>
+    requires room { at + length inside.now < 18446744073709551616 }
+    requires name { len ≡ spec.name_length inside.now }
     ensures { result ≡ spec.behind_name at inside.now }
 {
-    let len = name_length(inside);
     if len < inside.len() {
         let from = at + len + 1;
         let to = at + inside.len();
@@ -155,7 +155,7 @@ fn word_inside(at: usize, inside: &[u8]) -> MacroWord
         from: at,
         to: at + len,
     };
-    let behind = behind_name(at, inside);
+    let behind = behind_name(at, inside, len);
     match look_up(letters) {
         Some(Named::Repeated(key)) => key_word(key, behind),
         Some(Named::Alone(_)) | Some(Named::Alt) | None => {

@@ -1,7 +1,7 @@
 // The names that stand in braces.
 ghost use Rattle.std.specs.Char.{to_ascii_uppercase};
 ghost use Rattle.std.specs.List.{AllByRecursion};
-ghost use Rattle.std.specs.Prelude.{◌≡◌, ◌<◌, [], Some, length, map, take};
+ghost use Rattle.std.specs.Prelude.{◌≡◌, ◌<◌, ◌++◌, [], Some, length, map, take};
 ghost use Rattle.key_words.specs.Names as spec;
 ghost use Rattle.key_words.specs.Names.{looked_up};
 ghost use Rattle.key_words.specs.inner.Listed.{IsListed};
@@ -49,17 +49,19 @@ impl Letters {
     }
 
     /// What the letters stand for.
+    #[inline(always)]
     pub fn meaning(&self) -> Option<Named>
         ensures { result ≡ spec.looked_up (map to_ascii_uppercase self.now) }
     {
         if self.len == self.name.len() {
             Some(self.named)
         } else {
-            look_up(self.bytes())
+            searched(self.bytes())
         }
     }
 
     /// These letters and one more, where a name begins with them; that is a capital.
+    #[inline(always)]
     pub fn longer(&self, letter: u8) -> Option<Letters>
         ensures { result ≡ spec.longer self.now letter }
     {
@@ -111,11 +113,40 @@ const NAMES: [(&[u8], Named); 32] = [
     (b"ALT", Named::Alt),
 ];
 
-/// What a name stands for, in letters of either case.
-pub fn look_up(name: &[u8]) -> Option<Named>
+// What a name stands for, by a look at each of the table.
+#[inline(never)]
+fn searched(name: &[u8]) -> Option<Named>
     ensures { result ≡ spec.looked_up (map to_ascii_uppercase name.now) }
 {
     name_in(&NAMES, name)
+}
+
+// What letters stand for that begin with these, which are capitals, and go on with those of either case.
+fn spelled(mut letters: Letters, mut rest: &[u8]) -> Option<Named>
+    requires { map to_ascii_uppercase letters ≡ letters }
+    ensures { result ≡ spec.looked_up (letters ++ map to_ascii_uppercase rest.entry.now) }
+{
+    while let [first, behind @ ..] = rest {
+        match letters.longer(first.to_ascii_uppercase()) {
+            Some(longer) => letters = longer,
+            None => return None,
+        }
+        rest = behind;
+    }
+    letters.meaning()
+}
+
+/// What a name stands for, in letters of either case. It is found letter by letter, as keys are typed.
+pub fn look_up(name: &[u8]) -> Option<Named>
+    ensures { result ≡ spec.looked_up (map to_ascii_uppercase name.now) }
+{
+    match name {
+        [first, rest @ ..] => {
+            let letters = first_letter(first.to_ascii_uppercase())?;
+            spelled(letters, rest)
+        }
+        [] => None,
+    }
 }
 
 // These letters and one more, where a name of the table begins with them.
@@ -139,6 +170,7 @@ fn longer_in(mut table: &[(&'static [u8], Named)], letters: &[u8], letter: u8) -
 }
 
 // These letters and one more, where a name begins with them; the letters are capitals.
+#[inline(never)]
 fn longer(letters: &[u8], letter: u8) -> Option<Letters>
     ensures { result ≡ spec.longer letters.now letter }
 {
@@ -159,6 +191,7 @@ fn first_of(name: &'static [u8], named: Named) -> Option<Letters>
 }
 
 /// A letter, which is a capital, where a name begins with it.
+#[inline(always)]
 pub fn first_letter(letter: u8) -> Option<Letters>
     ensures { result ≡ spec.longer [] letter }
 {
