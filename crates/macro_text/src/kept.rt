@@ -1,13 +1,14 @@
 // Words that were read already.
 ghost use Rattle.std.specs.Prelude.{◌≡◌, true, IfOk, IfSome, OnOk};
 ghost use Rattle.key_words.specs.MacroText.{unit_at};
+ghost use Rattle.key_words.specs.declared.macro_word.MacroWord.TheVariants as words;
 ghost use Rattle.lics_text.specs.Bytes.{IsText};
 ghost use Rattle.macro_text.specs.Kept.{arguments_in, listed_by};
 
 use crate::ReadArguments;
 use crate::listed::arguments_of;
 use grid_address::Cell;
-use key_words::{Arguments, MacroWord, unit_at};
+use key_words::{Arguments, Key, MacroWord, unit_at};
 use lics_text::{Line, Memory};
 use std::alloc::Global;
 use std::marker::Model;
@@ -29,6 +30,10 @@ pub struct TextWords {
     words: Vec<KeptWord>,
     // Where the word stands among them that was asked for last.
     last: usize,
+    // The offset behind the first byte of the word that was come to last, and 0 where none was.
+    next: usize,
+    // Whether the text was gone back in, or come to again.
+    again: bool,
 }
 
 impl Model for TextWords {
@@ -79,6 +84,18 @@ fn listed_by(word: &MacroWord) -> Arguments
     }
 }
 
+// The key that a word is.
+fn key_of(word: &MacroWord) -> Option<Key>
+    ensures { IfSome result (λ k. word.now ≡ words.Key k) }
+{
+    match word {
+        MacroWord::Key(key) => Some(*key),
+        MacroWord::Command(_, _) | MacroWord::Repeated(_, _) => None,
+        MacroWord::Call(_, _) | MacroWord::PlaceCall(_) => None,
+        MacroWord::End | MacroWord::Bad => None,
+    }
+}
+
 // The arguments of a command in a text that stands in a cell.
 fn read_arguments(
     alloc: Global,
@@ -100,6 +117,8 @@ impl TextWords {
             text: Line::new(),
             words: Vec::new(alloc),
             last: 0,
+            next: 0,
+            again: false,
         }
     }
 
@@ -120,9 +139,18 @@ impl TextWords {
         if next < self.words.len() { next } else { 0 }
     }
 
-    // The place of the word at an offset, and the end where there is none.
-    #[inline(never)]
+    // The place of the word at an offset, and the end where there is none. A text is mostly read in its order: none is
+    // looked for behind the word that was kept last.
     fn place_at(&self, offset: usize) -> usize {
+        match self.words.last() {
+            Some(kept) if kept.at >= offset => self.searched(offset),
+            _ => self.words.len(),
+        }
+    }
+
+    // The same, by a look at each.
+    #[inline(never)]
+    fn searched(&self, offset: usize) -> usize {
         for place in 0..self.words.len() {
             if self.words[place].at == offset {
                 return place;
@@ -139,16 +167,18 @@ impl TextWords {
         kept == text
     }
 
-    // The words are those of this text, of which all are forgotten where it isn't the same.
+    // The words are those of this text, which is come to again, or all are forgotten where it isn't the same.
     fn follow(&mut self, text: &[u8])
         requires { IsText text.now }
         ensures { self.new ≡ text.now }
     {
-        if !self.is_of(text) {
+        self.again = self.is_of(text);
+        if !self.again {
             let mut copy = Line::new();
             copy.put_all(text);
             self.words.clear();
             self.text = copy;
+            self.next = 0;
         }
     }
 
@@ -175,7 +205,8 @@ impl TextWords {
         Ok(())
     }
 
-    // Reads the word at an offset of the text, which stands in a cell, and keeps it with its arguments.
+    // Reads the word at an offset of the text, which stands in a cell. A key of a text that wasn't gone through before
+    // is told, with the offset behind it; any other word is kept with its arguments.
     #[inline(never)]
     fn read_at(
         &mut self,
@@ -183,38 +214,38 @@ impl TextWords {
         offset: usize,
         cell: Cell,
         alloc: Global,
-    ) -> Result<(), Memory>
+    ) -> Result<Option<(Key, usize)>, Memory>
         requires text { IsText text.now }
         requires kept { self.old ≡ text.now }
-        ensures { OnOk result (self.new ≡ text.now) }
+        ensures key { IfOk result (λ o. IfSome o (λ k. unit_at text.now offset ≡ (words.Key k.0, k.1))) }
+        ensures text { OnOk result (self.new ≡ text.now) }
     {
         let (word, end) = unit_at(text, offset);
+        if !self.again {
+            if let Some(key) = key_of(&word) {
+                return Ok(Some((key, end)));
+            }
+        }
         let args = read_arguments(alloc, text, &word, cell)?;
-        self.keep(offset, &word, end, args)
+        self.keep(offset, &word, end, args)?;
+        Ok(None)
     }
 
-    // The word at an offset of the text, which stands in a cell, is asked for, and kept: mostly it is the next one.
-    fn come_to(
-        &mut self,
-        cell: Cell,
-        offset: usize,
-        text: &[u8],
-        alloc: Global,
-    ) -> Result<(), Memory>
-        requires kept { self.old ≡ text.now }
-        requires text { IsText text.now }
-        ensures { OnOk result (self.new ≡ text.now) }
+    // The word at an offset is asked for: mostly it is the next one. False where it isn't kept.
+    fn come_to(&mut self, offset: usize) -> bool
+        ensures { self.new ≡ self.old }
     {
+        if offset < self.next {
+            self.again = true;
+        }
+        self.next = offset.wrapping_add(1);
         let next = self.next_place();
         if self.placed(next, offset).is_some() {
             self.last = next;
-            return Ok(());
+            return true;
         }
         self.last = self.place_at(offset);
-        if self.last < self.words.len() {
-            return Ok(());
-        }
-        self.read_at(text, offset, cell, alloc)
+        self.last < self.words.len()
     }
 }
 
@@ -257,22 +288,40 @@ impl KeptWords {
         Ok(())
     }
 
-    /// Comes to the word at an offset of a text that stands in a cell, which `kept_at` then tells. It is kept, with its
-    /// arguments.
+    /// Comes to the word at an offset of a text that stands in a cell. Where it is kept `kept_at` tells it; false where
+    /// it has to be read.
+    #[inline(always)]
     pub fn come_to(
         &mut self,
         alloc: Global,
         text: &[u8],
         offset: usize,
         cell: Cell,
-    ) -> Result<(), Memory>
+    ) -> Result<bool, Memory>
         requires { IsText text.now }
         ensures { OnOk result (self.new ≡ text.now) }
     {
         if !self.hand.is_of(text) {
             self.follow(alloc, text, cell)?;
         }
-        self.hand.come_to(cell, offset, text, alloc)
+        Ok(self.hand.come_to(offset))
+    }
+
+    /// Reads the word that was come to. A key of a text that wasn't gone through before is told, with the offset behind
+    /// it; any other word is kept with its arguments, and `kept_at` then tells it.
+    pub fn read_at(
+        &mut self,
+        alloc: Global,
+        text: &[u8],
+        offset: usize,
+        cell: Cell,
+    ) -> Result<Option<(Key, usize)>, Memory>
+        requires text { IsText text.now }
+        requires kept { self.old ≡ text.now }
+        ensures key { IfOk result (λ o. IfSome o (λ k. unit_at text.now offset ≡ (words.Key k.0, k.1))) }
+        ensures text { OnOk result (self.new ≡ text.now) }
+    {
+        self.hand.read_at(text, offset, cell, alloc)
     }
 
     /// The text.

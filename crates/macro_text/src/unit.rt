@@ -216,7 +216,11 @@ fn outcome_at<K: Look>(
     if let Some(key) = plain_key(bytes, offset) {
         return Ok(WordOutcome::Now(Unit::Key(key), behind(offset + 1, position)));
     }
-    kept.come_to(alloc, bytes, offset, cell)?;
+    if !kept.come_to(alloc, bytes, offset, cell)? {
+        if let Some((key, end)) = kept.read_at(alloc, bytes, offset, cell)? {
+            return Ok(WordOutcome::Now(Unit::Key(key), behind(end, position)));
+        }
+    }
     let Some(word) = kept.kept_at(offset) else {
         return Err(Memory);
     };
