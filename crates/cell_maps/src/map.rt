@@ -153,8 +153,32 @@ impl<T> CellMap<T> {
     }
 
     /// Gives a cell an item in place of the one that it has. Only a cell that was never put in can find no memory.
+    /// Where the map has room, which is nearly always, the cell's page is looked up once.
     #[inline(always)]
     pub fn insert(&mut self, cell: Cell, item: T) -> Result<(), AllocError>
+    where
+        T: Drop,
+        ensures ok { OnOk result (self.new ≡ map.insert self.old cell item) }
+        ensures err { OnErr result (self.new ≡ self.old) }
+        ensures absent { OnErr result (map.get self.old cell ≡ None) }
+    {
+        cell.is_on_sheet();
+        match self.table.put_behind(cell, 0, &self.held) {
+            Some(0) => {
+                self.held.push_reserved(Held::Filled(cell, item));
+                Ok(())
+            }
+            Some(number) => {
+                self.held[number as usize - 1] = Held::Filled(cell, item);
+                Ok(())
+            }
+            None => self.insert_apart(cell, item),
+        }
+    }
+
+    // Gives a cell an item as `insert` does, by a call of its own: for a map that may have to grow.
+    #[inline(never)]
+    fn insert_apart(&mut self, cell: Cell, item: T) -> Result<(), AllocError>
     where
         T: Drop,
         ensures ok { OnOk result (self.new ≡ map.insert self.old cell item) }

@@ -166,20 +166,14 @@ impl CellSet {
         ensures no { result ≡ false → self.new.keys ≡ self.old.keys }
     {
         cell.is_on_sheet();
-        if self.cells.len() >= self.cells.capacity() {
+        let Some(had) = self.table.put_behind(cell, self.gone, &self.cells) else {
             return false;
+        };
+        if had <= self.gone {
+            self.before.clear();
+            self.cells.push_reserved(cell);
         }
-        self.before.clear();
-        let number = self.gone + self.cells.len() as u32 + 1;
-        match self.table.put_above(cell, self.gone, number) {
-            Some(put) => {
-                if put {
-                    self.cells.push_reserved(cell);
-                }
-                true
-            }
-            None => false,
-        }
+        true
     }
 
     /// Adds a cell behind the others, unless it is in the set, which stays as it was where there is no memory. Where

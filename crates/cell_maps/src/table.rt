@@ -1,5 +1,5 @@
 // The numbers of places.
-ghost use Rattle.std.specs.Prelude.{◌≡◌, false, true, ℕ, ◌<◌, ◌≤◌, ◌+◌, ◌-◌, ◌*◌, ◌/◌, ◌%◌, ◌⊎◌, cond, length, get_or, IfNone, IfSome, OnOk, OnErr};
+ghost use Rattle.std.specs.Prelude.{◌≡◌, ℕ, ◌<◌, ◌≤◌, ◌+◌, ◌-◌, ◌*◌, ◌/◌, ◌%◌, ◌^◌, ◌⊎◌, suc, cond, length, get_or, vec_capacity, vec_len, IfNone, IfSome, OnOk, OnErr};
 ghost use Rattle.grid_address.specs.Place.{same_place, InSheet, Place};
 ghost use Rattle.cell_maps.specs.Numbers.{band_of, head_of, number_at, page_of, place_of, HasRoom};
 ghost use Rattle.cell_maps.specs.inner.Numbering.{used};
@@ -240,27 +240,31 @@ impl PlaceTable {
         self.numbers[at] = number;
     }
 
-    /// Gives a cell another number where its own isn't above one of them, and tells whether it got it; none where its
-    /// page has no room.
+    /// Gives a cell the number behind those of a list, the first of which is one above those that are gone, unless its
+    /// own is above them, and tells its own; none where its page or the list has no room.
     #[inline(always)]
-    pub(crate) fn put_above(&mut self, cell: Cell, gone: u32, number: u32) -> Option<bool>
+    pub(crate) fn put_behind<T>(&mut self, cell: Cell, gone: u32, items: &Vec<T>) -> Option<u32>
+        requires { gone + length items.now.items < 2 ^ 32 - 1 }
         ensures none { IfNone result (self.new ≡ self.old) }
-        ensures had { IfSome result (λ put. put ≡ false → gone < number_at self.old cell) }
-        ensures same { IfSome result (λ put. put ≡ false → self.new ≡ self.old) }
-        ensures fresh { IfSome result (λ put. put ≡ true → number_at self.old cell ≤ gone) }
-        ensures set { IfSome result (λ put. put ≡ true → (d : Place) → InSheet d →
-            number_at self.new d ≡ cond (same_place cell d) number (number_at self.old d)) }
+        ensures room { IfSome result (λ had. vec_len items.now < vec_capacity items.now) }
+        ensures had { IfSome result (λ had. had ≡ number_at self.old cell) }
+        ensures same { IfSome result (λ had. gone < had → self.new ≡ self.old) }
+        ensures set { IfSome result (λ had. had ≤ gone → (d : Place) → InSheet d → number_at self.new d
+            ≡ cond (same_place cell d) (suc (gone + length items.now.items)) (number_at self.old d)) }
     {
         cell.is_on_sheet();
+        if items.len() >= items.capacity() {
+            return None;
+        }
         let head = self.head_of(cell);
         if head == 0 {
             return None;
         }
         let at = index_in(head, cell);
-        if self.numbers[at] > gone {
-            return Some(false);
+        let had = self.numbers[at];
+        if had <= gone {
+            self.numbers[at] = gone + items.len() as u32 + 1;
         }
-        self.numbers[at] = number;
-        Some(true)
+        Some(had)
     }
 }
