@@ -140,13 +140,15 @@ pub column_stays : (values others : Place → Value) (kept : Option Extent) (c :
 column_stays values others None c outside same is = tt
 column_stays values others (Some s) c outside same is = (is.0, still_rises values others s c is.0 outside same is.1)
 
--- what was found is so still where none of it hangs on the cell that changes
-pub all_stay : (values others : Place → Value) (f : Findings) (c : Place)
+-- what is kept is so still where none of it hangs on the cell that changes
+pub kept_stays : (values others : Place → Value) (kept : Option Findings) (f : Findings) (c : Place) → kept ≡ Some f
     → IfSome f.last (λ r. is_within r.span c ≡ false) → IfSome f.before (λ r. is_within r.span c ≡ false)
     → IfSome f.rising (λ s. is_within s c ≡ false) → ((d : Place) → same_place d c ≡ false → others d ≡ values d)
-    → AreFound values f → AreFound others f
-all_stay values others f c last before rising same found = record {
-  last = running_stays values others f.last c last same found.last;
-  before = running_stays values others f.before c before same found.before;
-  rising = column_stays values others f.rising c rising same found.rising;
-}
+    → IfSome kept (AreFound values) → IfSome kept (AreFound others)
+kept_stays values others kept f c is last before rising same found =
+    let there : AreFound values f = subst (λ o. IfSome o (AreFound values)) is found in
+    subst (λ o. IfSome o (AreFound others)) (sym is) (record {
+      last = running_stays values others f.last c last same there.last;
+      before = running_stays values others f.before c before same there.before;
+      rising = column_stays values others f.rising c rising same there.rising;
+    })
