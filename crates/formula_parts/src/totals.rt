@@ -175,22 +175,6 @@ fn is_sparse(rows: u16, width: u16, count: usize) -> bool {
     cells.saturating_sub(MOST_BLANK) / 8 > count
 }
 
-// Adds the cells of a range from a row on up to another, where these are few rows.
-#[inline(always)]
-fn add_few<K: Look>(total: &mut Total, span: Span, from: u16, to: u16, look: &K) -> bool
-    requires rows { from ≤ to }
-    requires inside { to ≤ height_of span }
-    ensures { let so_far = so_far (K.sight look.now).values span in
-        result ≡ true → IsTotal total.old (so_far from) → IsTotal total.new (so_far to) }
-{
-    for row in from..to {
-        if !add_row(total, span, row, look) {
-            return false;
-        }
-    }
-    true
-}
-
 // A total on the way, with a sum of its own for the numbers that came last: so few have one of 64 bits.
 #[derive(Clone, Copy)]
 struct Held {
@@ -297,14 +281,14 @@ fn add_rows<K: Look>(total: &mut Total, span: Span, from: u16, to: u16, look: &K
     ensures { let so_far = so_far (K.sight look.now).values span in
         result ≡ true → IsTotal total.old (so_far from) → IsTotal total.new (so_far to) }
 {
-    if usize::from(span.width()) <= MOST_BLANK / usize::from(BAND) {
-        if to - from > FEW {
-            return add_narrow(total, span, from, to, look);
-        }
-        return add_few(total, span, from, to, look);
+    let is_narrow = usize::from(span.width()) <= MOST_BLANK / usize::from(BAND);
+    if is_narrow && to - from > FEW {
+        return add_narrow(total, span, from, to, look);
     }
     for row in from..to {
-        if is_sparse(row - from, span.width(), total.count) || !add_row(total, span, row, look) {
+        if !is_narrow && is_sparse(row - from, span.width(), total.count)
+            || !add_row(total, span, row, look)
+        {
             return false;
         }
     }
