@@ -12,5 +12,5 @@ mod reader;
 pub use command::Command;
 pub use key::Key;
 pub use letter::Letter;
-pub use macro_word::{Arguments, Cut, MacroWord, unit_at};
+pub use macro_word::{Arguments, Cut, MacroWord, glanced_key, unit_at};
 pub use reader::{Fed, KeyReader, notation_reads_one_way};

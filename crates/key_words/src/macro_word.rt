@@ -1,13 +1,15 @@
 // The words of a macro's text.
-ghost use Rattle.std.specs.Prelude.{◌≡◌, ◌+◌, ◌<◌, ◌≤◌, ◌==◌, length, IfSome};
+ghost use Rattle.std.specs.Char.{to_ascii_uppercase};
+ghost use Rattle.std.specs.Prelude.{◌≡◌, ◌+◌, ◌<◌, ◌≤◌, ◌==◌, length, map, true, IfSome};
 ghost use Rattle.std.specs.List.{position};
 ghost use Rattle.key_words.specs.declared.command.SlashWord.TheVariants as SlashWord;
+ghost use Rattle.key_words.specs.declared.macro_word.MacroWord.TheVariants as word;
 ghost use Rattle.key_words.specs.MacroText as spec;
 
 use crate::Key;
 use crate::begun::is_mark;
 use crate::command::{Command, SlashWord, command_named, slash_word};
-use crate::name::{Named, look_up};
+use crate::name::{Named, look_up, usual_letter};
 use lics_text::TextByte;
 
 /// A part of a text: the bytes from one offset on up to another.
@@ -268,6 +270,47 @@ fn slashed(text: &[u8], offset: usize) -> (MacroWord, usize)
         Some(SlashWord::WithOne(command)) => with_one(text, offset + 3, command),
         Some(SlashWord::WithTwo(command)) => with_two(text, offset + 3, command),
         Some(SlashWord::Call) => place_call(text, offset + 3),
+    }
+}
+
+// Whether letters of either case spell a name, which is in capitals and as long.
+fn spells(letters: &[u8], name: &[u8]) -> bool
+    requires { length letters.now ≡ length name.now }
+    ensures { result ≡ true → map to_ascii_uppercase letters.now ≡ name.now }
+{
+    for place in 0..name.len() {
+        if letters[place].to_ascii_uppercase() != name[place] {
+            return false;
+        }
+    }
+    true
+}
+
+/// The key that a word in braces at an offset is, and the offset behind it, where it is told by its name alone and at a
+/// glance: by the name that is mostly meant by its first letter.
+#[inline(always)]
+pub fn glanced_key(text: &[u8], offset: usize) -> Option<(Key, usize)>
+    ensures { IfSome result (λ k. spec.unit_at text.now offset ≡ (word.Key k.0, k.1)) }
+{
+    if offset >= text.len() || text[offset] != b'{' {
+        return None;
+    }
+    let at = offset + 1;
+    if at >= text.len() {
+        return None;
+    }
+    let (name, named) = usual_letter(text[at] & 0x5f)?.whole();
+    let len = name.len();
+    if len >= text.len() - at {
+        return None;
+    }
+    let end = at + len;
+    if text[end] != b'}' || !spells(&text[at..end], name) {
+        return None;
+    }
+    match named {
+        Named::Repeated(key) => Some((key, end + 1)),
+        Named::Alone(_) | Named::Alt => None,
     }
 }
 

@@ -1,7 +1,7 @@
 // The names that stand in braces.
 ghost use Rattle.std.specs.Char.{to_ascii_uppercase};
 ghost use Rattle.std.specs.List.{AllByRecursion};
-ghost use Rattle.std.specs.Prelude.{◌≡◌, ◌<◌, ◌++◌, [], Some, length, map, take};
+ghost use Rattle.std.specs.Prelude.{◌≡◌, ◌<◌, ◌++◌, [], IfSome, Some, length, map, take};
 ghost use Rattle.key_words.specs.Names as spec;
 ghost use Rattle.key_words.specs.Names.{looked_up};
 ghost use Rattle.key_words.specs.inner.Listed.{IsListed};
@@ -58,6 +58,14 @@ impl Letters {
         } else {
             searched(self.bytes())
         }
+    }
+
+    /// The whole name as whose front they are kept, in capitals, and what it stands for.
+    #[inline(always)]
+    pub fn whole(&self) -> (&'static [u8], Named)
+        ensures { looked_up result.0.now ≡ Some result.1 }
+    {
+        (self.name, self.named)
     }
 
     /// These letters and one more, where a name begins with them; that is a capital.
@@ -190,10 +198,10 @@ fn first_of(name: &'static [u8], named: Named) -> Option<Letters>
     })
 }
 
-/// A letter, which is a capital, where a name begins with it.
+/// A letter, which is a capital, where one name is mostly meant by it.
 #[inline(always)]
-pub fn first_letter(letter: u8) -> Option<Letters>
-    ensures { result ≡ spec.longer [] letter }
+pub fn usual_letter(letter: u8) -> Option<Letters>
+    ensures { IfSome result (λ l. Some l ≡ spec.longer [] letter) }
 {
     match letter {
         b'A' => first_of(b"ABS", Named::Repeated(Key::Abs)),
@@ -211,6 +219,17 @@ pub fn first_letter(letter: u8) -> Option<Letters>
         b'T' => first_of(b"TABLE", Named::Repeated(Key::Table)),
         b'U' => first_of(b"UP", Named::Repeated(Key::Up)),
         b'W' => first_of(b"WINDOW", Named::Repeated(Key::Window)),
-        _ => longer(b"", letter),
+        _ => None,
+    }
+}
+
+/// A letter, which is a capital, where a name begins with it.
+#[inline(always)]
+pub fn first_letter(letter: u8) -> Option<Letters>
+    ensures { result ≡ spec.longer [] letter }
+{
+    match usual_letter(letter) {
+        Some(letters) => Some(letters),
+        None => longer(b"", letter),
     }
 }

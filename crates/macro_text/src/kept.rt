@@ -25,7 +25,7 @@ pub struct KeptWord {
 
 // The words that were read from a text, which are used only while the text is the same.
 #[derive(Drop)]
-pub struct TextWords {
+struct TextWords {
     text: Line,
     words: Vec<KeptWord>,
     // Where the word stands among them that was asked for last.
@@ -133,12 +133,6 @@ impl TextWords {
         }
     }
 
-    // The place behind that of the word that was asked for last, and behind the end the first one.
-    fn next_place(&self) -> usize {
-        let next = self.last.wrapping_add(1);
-        if next < self.words.len() { next } else { 0 }
-    }
-
     // The place of the word at an offset, and the end where there is none. A text is mostly read in its order: none is
     // looked for behind the word that was kept last.
     fn place_at(&self, offset: usize) -> usize {
@@ -231,7 +225,7 @@ impl TextWords {
         Ok(None)
     }
 
-    // The word at an offset is asked for: mostly it is the next one. False where it isn't kept.
+    // The word at an offset is asked for: mostly it is the next one, or the first one. False where it isn't kept.
     fn come_to(&mut self, offset: usize) -> bool
         ensures { self.new ≡ self.old }
     {
@@ -239,9 +233,13 @@ impl TextWords {
             self.again = true;
         }
         self.next = offset.wrapping_add(1);
-        let next = self.next_place();
+        let next = self.last.wrapping_add(1);
         if self.placed(next, offset).is_some() {
             self.last = next;
+            return true;
+        }
+        if self.placed(0, offset).is_some() {
+            self.last = 0;
             return true;
         }
         self.last = self.place_at(offset);

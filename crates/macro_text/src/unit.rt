@@ -14,7 +14,7 @@ use crate::{KeptWord, KeptWords, Position, Spot};
 use fixed_value::Fixed;
 use formula_parts::{Look, Scene};
 use grid_address::{Cell, LAST_ROW};
-use key_words::{Key, MacroWord};
+use key_words::{Key, MacroWord, glanced_key};
 use lics_text::{Memory, TextByte};
 use range_names::Names;
 use std::alloc::Global;
@@ -215,6 +215,9 @@ fn outcome_at<K: Look>(
     let Spot { cell, offset } = position.spot;
     if let Some(key) = plain_key(bytes, offset) {
         return Ok(WordOutcome::Now(Unit::Key(key), behind(offset + 1, position)));
+    }
+    if let Some((key, end)) = glanced_key(bytes, offset) {
+        return Ok(WordOutcome::Now(Unit::Key(key), behind(end, position)));
     }
     if !kept.come_to(alloc, bytes, offset, cell)? {
         if let Some((key, end)) = kept.read_at(alloc, bytes, offset, cell)? {
