@@ -28,6 +28,8 @@ pub struct KeptWord {
 struct TextWords {
     text: Line,
     words: Vec<KeptWord>,
+    // A bit for each offset modulo 64 at which one of them stands.
+    marks: u64,
     // Where the word stands among them that was asked for last.
     last: usize,
     // The offset behind the first byte of the word that was come to last, and 0 where none was.
@@ -116,6 +118,7 @@ impl TextWords {
         TextWords {
             text: Line::new(),
             words: Vec::new(alloc),
+            marks: 0,
             last: 0,
             next: 0,
             again: false,
@@ -171,6 +174,7 @@ impl TextWords {
             let mut copy = Line::new();
             copy.put_all(text);
             self.words.clear();
+            self.marks = 0;
             self.text = copy;
             self.next = 0;
         }
@@ -190,6 +194,7 @@ impl TextWords {
     {
         let word = *word;
         self.last = self.words.len();
+        self.marks |= 1u64 << (at % 64);
         self.words.push(KeptWord {
             at,
             word,
@@ -284,6 +289,12 @@ impl KeptWords {
         self.turn_to(alloc, cell)?;
         self.hand.follow(text);
         Ok(())
+    }
+
+    /// Whether a word of the text at hand may be kept that stands at an offset.
+    #[inline(always)]
+    pub fn may_hold(&self, offset: usize) -> bool {
+        (self.hand.marks >> (offset % 64)) & 1 == 1
     }
 
     /// Comes to the word at an offset of a text that stands in a cell. Where it is kept `kept_at` tells it; false where

@@ -213,11 +213,16 @@ fn outcome_at<K: Look>(
     };
     let bytes = text.bytes();
     let Spot { cell, offset } = position.spot;
+    if offset >= bytes.len() {
+        return Ok(down(position));
+    }
     if let Some(key) = plain_key(bytes, offset) {
         return Ok(WordOutcome::Now(Unit::Key(key), behind(offset + 1, position)));
     }
-    if let Some((key, end)) = glanced_key(bytes, offset) {
-        return Ok(WordOutcome::Now(Unit::Key(key), behind(end, position)));
+    if !kept.may_hold(offset) {
+        if let Some((key, end)) = glanced_key(bytes, offset) {
+            return Ok(WordOutcome::Now(Unit::Key(key), behind(end, position)));
+        }
     }
     if !kept.come_to(alloc, bytes, offset, cell)? {
         if let Some((key, end)) = kept.read_at(alloc, bytes, offset, cell)? {
