@@ -32,7 +32,7 @@ struct TextWords {
     marks: u64,
     // Where the word stands among them that was asked for last.
     last: usize,
-    // The offset behind the first byte of the word that was come to last, and 0 where none was.
+    // The offset behind the first byte of the word that was looked for last, and 0 where none was.
     next: usize,
     // Whether the text was gone back in, or come to again.
     again: bool,
@@ -230,14 +230,23 @@ impl TextWords {
         Ok(None)
     }
 
-    // The word at an offset is asked for: mostly it is the next one, or the first one. False where it isn't kept.
-    fn come_to(&mut self, offset: usize) -> bool
+    // The word at an offset is looked for. False where it isn't kept.
+    #[inline(never)]
+    fn look_for(&mut self, offset: usize) -> bool
         ensures { self.new ≡ self.old }
     {
         if offset < self.next {
             self.again = true;
         }
         self.next = offset.wrapping_add(1);
+        self.last = self.place_at(offset);
+        self.last < self.words.len()
+    }
+
+    // The word at an offset is asked for: mostly it is the next one, or the first one. False where it isn't kept.
+    fn come_to(&mut self, offset: usize) -> bool
+        ensures { self.new ≡ self.old }
+    {
         let next = self.last.wrapping_add(1);
         if self.placed(next, offset).is_some() {
             self.last = next;
@@ -247,8 +256,7 @@ impl TextWords {
             self.last = 0;
             return true;
         }
-        self.last = self.place_at(offset);
-        self.last < self.words.len()
+        self.look_for(offset)
     }
 }
 
