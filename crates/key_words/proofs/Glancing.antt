@@ -8,7 +8,6 @@ use Rattle.std.proofs.lemmas.List.{length-map, take_all, take_at, take-append-dr
 use Rattle.std.proofs.lemmas.Bool.{cases_Bool, and_parts, eqb-true, lt-ltb, true≢false}
 use Rattle.std.proofs.lemmas.Bool.Decides.{nat_tests}
 use Rattle.key_words.specs.declared.key.Key.{Key}
-use Rattle.key_words.specs.declared.name.Named.{Named}
 use Rattle.key_words.specs.declared.name.Named.TheVariants.{Repeated}
 use Rattle.key_words.specs.declared.macro_word.MacroWord.TheVariants as word
 use Rattle.key_words.specs.MacroText.{behind_name, braced, closed_at, closing_from, is_marked, key_word, name_length}

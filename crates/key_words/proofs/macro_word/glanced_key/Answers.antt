@@ -1,4 +1,4 @@
-use Rattle.std.proofs.Common.{◌≡◌, ◌+◌, ◌-◌, length, map, take, drop, refl, ap, sym, ◌∙◌, arith, Some}
+use Rattle.std.proofs.Common.{◌≡◌, ◌+◌, ◌-◌, length, map, take, drop, refl, ap, ◌∙◌, arith, Some}
 use Rattle.std.specs.Char.{to_ascii_uppercase}
 use Rattle.key_words.specs.declared.name.Named.{Named}
 use Rattle.key_words.proofs.Glancing.{key_by_name}
