@@ -15,6 +15,8 @@ mod prefix;
 mod room;
 mod text;
 mod text_line;
+mod text_ref;
+mod text_room;
 mod trim;
 
 pub use byte_list::ByteList;
@@ -25,6 +27,8 @@ pub use names::{is_name, name_in};
 pub use prefix::LabelPrefix;
 pub use text::Text;
 pub use text_line::TextLine;
+pub use text_ref::TextRef;
+pub use text_room::TextRoom;
 
 /// The most bytes of a text and of a line (Release 2 manual).
 pub const MAX_LEN: usize = 240;

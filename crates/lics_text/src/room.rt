@@ -33,6 +33,24 @@ impl<const N: usize> Room<N> {
         }
     }
 
+    /// The list of 12 to 24 bytes, for which there must be room: their first and their last twelve, which may overlap,
+    /// so that it takes no call.
+    #[inline(always)]
+    pub fn of_some(bytes: &[u8]) -> Room<N>
+        requires some { 12 ≤ length bytes.now }
+        requires few { length bytes.now ≤ 24 }
+        requires fits { length bytes.now ≤ N }
+        ensures { result ≡ bytes.now }
+    {
+        let mut room = Room::new();
+        let end = bytes.len();
+        let all = &mut room.bytes[..];
+        all[..12].copy_from_slice(&bytes[..12]);
+        all[end - 12..end].copy_from_slice(&bytes[end - 12..]);
+        room.len = end as u8;
+        room
+    }
+
     /// Adds bytes, for which there must be room.
     #[inline(always)]
     pub fn put_all(&mut self, bytes: &[u8])

@@ -183,7 +183,7 @@ impl Text {
 }
 
 // The order of two lists of bytes in which a small letter counts as its capital.
-fn fold_cmp(a: &[u8], b: &[u8]) -> Ordering
+pub(crate) fn fold_cmp(a: &[u8], b: &[u8]) -> Ordering
     ensures { result ≡ slice_cmp nat_cmp (map to_ascii_uppercase a.now) (map to_ascii_uppercase b.now) }
 {
     let mut at = 0;
