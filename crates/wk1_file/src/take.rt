@@ -83,6 +83,7 @@ fn window(sheet: &mut SavedSheet, pointer: Cell, format: Format, width: u8)
 }
 
 // A cell with another state.
+#[inline(always)]
 fn state(sheet: &mut SavedSheet, cell: Cell, state: CellState) -> Result<(), Memory>
     requires { IsSound state }
     ensures { OnOk result (sheet.new ≡ record sheet.old { store = put_state sheet.old.store cell state }) }
