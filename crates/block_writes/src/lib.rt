@@ -8,4 +8,4 @@ mod values;
 pub use cells::{by_columns, push_down};
 pub use copies::{copied, rows_copied, written};
 pub use grid_address::column_at;
-pub use values::{content_of, value_copied};
+pub use values::{content_of, content_of_value, value_copied};

@@ -8,7 +8,7 @@ ghost use Rattle.formula_parts.specs.Outlook.{Sight};
 ghost use Rattle.block_writes.specs.Writing.{as_content, value_copied};
 
 use formula_parts::Look;
-use formula_tree::{Content, Expr, ExprList, Formula, Function, ValueRef};
+use formula_tree::{Content, Expr, ExprList, Formula, Function, Value, ValueRef};
 use grid_address::Cell;
 use lics_text::{LabelPrefix, Memory};
 use sheet_store::Write;
@@ -43,6 +43,19 @@ pub fn content_of(alloc: Global, value: &ValueRef<'_>) -> Result<Content, Memory
         ValueRef::Str(text) => Ok(Content::Label(LabelPrefix::Left, text.copy()?)),
         ValueRef::Err => Ok(Content::Formula(formula_of_call(alloc, Function::Err)?)),
         ValueRef::Na => Ok(Content::Formula(formula_of_call(alloc, Function::Na)?)),
+    }
+}
+
+/// The same of a value that is at hand itself.
+pub fn content_of_value(alloc: Global, value: &Value) -> Result<Content, Memory>
+    ensures { IfOk result (λ c. c ≡ as_content value.now) }
+{
+    match value {
+        Value::Blank => Ok(Content::Blank),
+        Value::Num(number) => Ok(Content::Number(*number)),
+        Value::Str(text) => Ok(Content::Label(LabelPrefix::Left, text.copy()?)),
+        Value::Err => Ok(Content::Formula(formula_of_call(alloc, Function::Err)?)),
+        Value::Na => Ok(Content::Formula(formula_of_call(alloc, Function::Na)?)),
     }
 }
 

@@ -4,7 +4,7 @@ ghost use Rattle.commands_data.specs.inner.Benched.{keep_formats};
 
 use crate::protection::is_protected;
 use crate::trying::{enter_out, write_out};
-use block_writes::content_of;
+use block_writes::content_of_value;
 use data_blocks::{Bench, BlockFault};
 use formula_eval::Tally;
 use formula_parts::Scene;
@@ -40,7 +40,7 @@ impl Bench for TableBench<'_> {
         if is_protected(self.sheet, cell) {
             return Err(BlockFault::Sheet(SheetFault::Protected(cell)));
         }
-        let content = content_of(self.sheet.alloc(), &value.as_ref())?;
+        let content = content_of_value(self.sheet.alloc(), value)?;
         enter_out(cell, content, self.sheet, &self.scene, self.tally)?;
         Ok(())
     }

@@ -13,7 +13,7 @@ ghost use Rattle.data_blocks.specs.Distribution.{bin_of, distributed, distributi
 
 use crate::BlockFault;
 use crate::rows::row_cell;
-use block_writes::{content_of, written};
+use block_writes::{content_of_value, written};
 use fixed_value::Fixed;
 use formula_parts::Look;
 use formula_tree::ValueRef;
@@ -110,7 +110,7 @@ fn share_above(numbers: &[i64], before: Option<Fixed>) -> usize
 fn count_written(alloc: Global, cell: Cell, count: usize) -> Result<Write, Memory>
     ensures { IfOk result (λ w. w ≡ written cell (as_content (counted count))) }
 {
-    let content = content_of(alloc, &counted(count).as_ref())?;
+    let content = content_of_value(alloc, &counted(count))?;
     Ok(written(cell, content))
 }
 

@@ -8,7 +8,7 @@ ghost use Rattle.macro_words.specs.Rows as spec;
 use crate::rows::bad;
 use crate::values::{AS_STRING, AS_VALUE, ends_in, text_value, without};
 use crate::{Change, Deed, Frame, Move, Row, Running, Source};
-use block_writes::{content_of, written};
+use block_writes::{content_of_value, written};
 use formula_parts::Look;
 use formula_tree::Value;
 use grid_address::Cell;
@@ -83,7 +83,7 @@ fn entered(
         return Ok(None);
     };
     match value {
-        Some(value) => Ok(Some(written(cell, content_of(alloc, &value.as_ref())?))),
+        Some(value) => Ok(Some(written(cell, content_of_value(alloc, value)?))),
         None => Ok(None),
     }
 }

@@ -9,7 +9,7 @@ ghost use Rattle.macro_words.specs.Rows as rows;
 ghost use Rattle.macro_words.specs.Values as spec;
 
 use crate::{Change, Deed, Move, Row, Source};
-use block_writes::{content_of, written};
+use block_writes::{content_of_value, written};
 use formula_parts::Look;
 use formula_tree::{Content, Formula, Value};
 use grid_address::Cell;
@@ -33,7 +33,7 @@ fn one_write(alloc: Global, cell: Cell, content: Content) -> Result<Writes, Memo
 pub fn value_write(alloc: Global, cell: Cell, value: &Value) -> Result<Writes, Memory>
     ensures { IfOk result (λ w. w ≡ written cell (as_content value.now) ∷ []) }
 {
-    let content = content_of(alloc, &value.as_ref())?;
+    let content = content_of_value(alloc, value)?;
     one_write(alloc, cell, content)
 }
 
