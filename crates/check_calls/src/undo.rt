@@ -46,7 +46,7 @@ fn writes_of(cells: &Store) -> Result<Writes, Stop> {
 fn write_of(cell: Cell, state: &CellState) -> Result<Entry, Memory> {
     Ok(Entry {
         cell,
-        content: state.content().copy()?,
+        content: state.copied_content()?,
         format: Some(state.format()),
     })
 }

@@ -7,13 +7,13 @@ ghost use Rattle.commands_file.specs.Combined.{combined, combined_writes, is_num
 ghost use Rattle.commands_file.specs.Combined.{number_held, placed, total, totalled, used_span, write_at, write_of};
 ghost use Rattle.work_sheet.specs.Seen.{of_worksheet};
 
-use block_writes::{content_of, written};
+use block_writes::{content_of_value, written};
 use command_desk::{CommandEnd, settled};
 use desk_errors::CommandError;
 use fixed_value::Fixed;
 use formula_eval::Tally;
 use formula_parts::Scene;
-use formula_tree::{Content, ContentRef, ValueRef};
+use formula_tree::{Content, ContentRef, Value, ValueRef};
 use grid_address::{Cell, ROWS, Span};
 use lics_text::Memory;
 use sheet_store::{CellState, Store, Write, Writes};
@@ -99,7 +99,7 @@ fn push_copy(writes: &mut Writes, cell: Cell, state: &CellState) -> Result<(), M
     ensures { OnOk result (writes.new ≡ writes.old
         ++ record { cell = cell; content = state.now.content; format = Some state.now.format } ∷ []) }
 {
-    let content = state.content().copy()?;
+    let content = state.copied_content()?;
     writes.push(Write {
         cell,
         content,
@@ -127,7 +127,7 @@ fn push_total(
     match total(kind, here, number) {
         Some(sum) => writes.push(written(cell, Content::Number(sum))),
         None => {
-            let err = content_of(sheet.alloc(), &ValueRef::Err)?;
+            let err = content_of_value(sheet.alloc(), &Value::Err)?;
             writes.push(written(cell, err))
         }
     }

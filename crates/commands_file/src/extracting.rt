@@ -7,7 +7,7 @@ ghost use Rattle.sheet_shifts.specs.declared.shift.Shift.TheVariants.{Block};
 ghost use Rattle.sheet_store.specs.Grid.{IsSound};
 ghost use Rattle.work_sheet.specs.Seen.{of_worksheet};
 
-use block_writes::content_of;
+use block_writes::content_of_value;
 use grid_address::{Cell, Span};
 use lics_text::Memory;
 use range_names::Names;
@@ -39,7 +39,7 @@ fn extracted_state(
     match kind {
         Extracting::Formulas => state.copy(store.alloc()),
         Extracting::Values => {
-            let content = content_of(store.alloc(), &state.value())?;
+            let content = content_of_value(store.alloc(), &state.copied_value()?)?;
             state_of(store, cell, content)
         }
     }

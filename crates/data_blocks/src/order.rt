@@ -5,10 +5,11 @@ ghost use Rattle.std.specs.Ordering.{int_cmp, nat_cmp, ordering_then};
 ghost use Rattle.formula_tree.specs.Seen.{seen_value};
 ghost use Rattle.value_functions.specs.Operators.{order_of_texts};
 ghost use Rattle.data_blocks.specs.Sorting.{kind_of, order_in_kind, order_of_values};
+ghost use Rattle.lics_text.specs.Seen.{seen_text};
 
 use fixed_value::Fixed;
 use formula_tree::ValueRef;
-use lics_text::Text;
+use lics_text::TextRef;
 use std::cmp::Ordering;
 
 // The rank of a value's kind in a sort.
@@ -32,8 +33,10 @@ fn order_of_numbers(a: Fixed, b: Fixed) -> Ordering
 }
 
 // Texts folded, and then by their bytes.
-fn order_of_labels(a: &Text, b: &Text) -> Ordering
-    ensures { result ≡ ordering_then (order_of_texts a.now b.now) (slice_cmp nat_cmp a.now b.now) }
+fn order_of_labels(a: TextRef<'_>, b: TextRef<'_>) -> Ordering
+    ensures { let s = seen_text a.entry in
+        let t = seen_text b.entry in
+        result ≡ ordering_then (order_of_texts s t) (slice_cmp nat_cmp s t) }
 {
     a.fold_cmp(b).then(a.bytes().cmp(b.bytes()))
 }
@@ -48,7 +51,7 @@ fn order_in_kind(a: &ValueRef<'_>, b: &ValueRef<'_>) -> Ordering
             ValueRef::Blank | ValueRef::Str(_) | ValueRef::Err | ValueRef::Na => Ordering::Equal,
         },
         ValueRef::Str(s) => match b {
-            ValueRef::Str(t) => order_of_labels(s, t),
+            ValueRef::Str(t) => order_of_labels(*s, *t),
             ValueRef::Blank | ValueRef::Num(_) | ValueRef::Err | ValueRef::Na => Ordering::Equal,
         },
         ValueRef::Blank | ValueRef::Err | ValueRef::Na => Ordering::Equal,

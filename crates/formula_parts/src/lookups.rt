@@ -14,7 +14,7 @@ use at_functions::whole;
 use fixed_value::Fixed;
 use formula_tree::{Function, Value, ValueRef};
 use grid_address::{Cell, Span, read_cell};
-use lics_text::{Memory, Text};
+use lics_text::{Memory, Text, TextRef};
 use range_names::Names;
 use std::cmp::Ordering;
 use value_functions::{counted, number_in, stop_one, stop_two, text_in};
@@ -108,7 +108,7 @@ fn is_label(text: &Text, value: &ValueRef<'_>) -> bool
     ensures { result ≡ is_label text.now (seen_value value.now) }
 {
     match value {
-        ValueRef::Str(label) => label.fold_cmp(text) == Ordering::Equal,
+        ValueRef::Str(label) => label.fold_cmp(TextRef::Text(text)) == Ordering::Equal,
         ValueRef::Blank | ValueRef::Num(_) | ValueRef::Err | ValueRef::Na => false,
     }
 }

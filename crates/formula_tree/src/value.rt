@@ -5,7 +5,7 @@ ghost use Rattle.formula_tree.specs.Values.{is_filled};
 
 use crate::Formula;
 use fixed_value::Fixed;
-use lics_text::{LabelPrefix, Memory, Text};
+use lics_text::{LabelPrefix, Memory, Text, TextRef};
 
 /// A cell's value. A formula's value is never blank.
 #[derive(Drop)]
@@ -49,7 +49,7 @@ impl Value {
         match self {
             Value::Blank => ValueRef::Blank,
             Value::Num(number) => ValueRef::Num(*number),
-            Value::Str(text) => ValueRef::Str(text),
+            Value::Str(text) => ValueRef::Str(TextRef::Text(text)),
             Value::Err => ValueRef::Err,
             Value::Na => ValueRef::Na,
         }
@@ -61,7 +61,7 @@ impl Value {
 pub enum ValueRef<'a> {
     Blank,
     Num(Fixed),
-    Str(&'a Text),
+    Str(TextRef<'a>),
     Err,
     Na,
 }
@@ -121,7 +121,7 @@ impl Content {
         match self {
             Content::Blank => ContentRef::Blank,
             Content::Number(number) => ContentRef::Number(*number),
-            Content::Label(prefix, text) => ContentRef::Label(*prefix, text),
+            Content::Label(prefix, text) => ContentRef::Label(*prefix, TextRef::Text(text)),
             Content::Formula(formula) => ContentRef::Formula(formula),
         }
     }
@@ -132,7 +132,7 @@ impl Content {
 pub enum ContentRef<'a> {
     Blank,
     Number(Fixed),
-    Label(LabelPrefix, &'a Text),
+    Label(LabelPrefix, TextRef<'a>),
     Formula(&'a Formula),
 }
 

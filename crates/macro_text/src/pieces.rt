@@ -4,16 +4,17 @@ ghost use Rattle.formula_tree.specs.Seen.{seen_value};
 ghost use Rattle.lics_text.specs.Bytes.{IsText};
 ghost use Rattle.macro_text.specs.Texts as spec;
 ghost use Rattle.value_functions.specs.Values.{text_in};
+ghost use Rattle.lics_text.specs.Seen.{seen_text};
 
 use formula_parts::Look;
 use formula_tree::{ContentRef, ValueRef};
 use grid_address::Cell;
 use key_words::Cut;
-use lics_text::Text;
+use lics_text::TextRef;
 
 /// The text that a value is.
-pub fn text_in<'a>(value: &ValueRef<'a>) -> Option<&'a Text>
-    ensures some { IfSome result (λ t. text_in (seen_value value.now) ≡ Some t.now) }
+pub fn text_in<'a>(value: &ValueRef<'a>) -> Option<TextRef<'a>>
+    ensures some { IfSome result (λ t. text_in (seen_value value.now) ≡ Some (seen_text t)) }
     ensures none { IfNone result (text_in (seen_value value.now) ≡ None) }
 {
     match value {
@@ -24,8 +25,8 @@ pub fn text_in<'a>(value: &ValueRef<'a>) -> Option<&'a Text>
 
 /// The text that a macro is read from in a cell: a label's without its prefix, or the text that a formula has as its
 /// value. Any other content ends the routine (Release 2 manual for labels).
-pub fn macro_text<K: Look>(look: &K, cell: Cell) -> Option<&Text>
-    ensures some { IfSome result (λ t. spec.macro_text (K.sight look.now) cell ≡ Some t.now) }
+pub fn macro_text<K: Look>(look: &K, cell: Cell) -> Option<TextRef<'_>>
+    ensures some { IfSome result (λ t. spec.macro_text (K.sight look.now) cell ≡ Some (seen_text t)) }
     ensures none { IfNone result (spec.macro_text (K.sight look.now) cell ≡ None) }
 {
     match look.content(cell) {

@@ -2,12 +2,13 @@
 ghost use Rattle.std.specs.Prelude.{◌≡◌, ◌≤◌, IfNone, IfSome, None, Some};
 ghost use Rattle.record_match.specs.Fields.{label_in};
 ghost use Rattle.macro_words.specs.Items as spec;
+ghost use Rattle.lics_text.specs.Seen.{seen_text};
 
 use crate::MacroMenu;
 use formula_parts::Look;
 use formula_tree::ContentRef;
 use grid_address::{COLUMNS, Cell, LAST_COLUMN};
-use lics_text::Text;
+use lics_text::TextRef;
 
 /// The cell so many columns to the right, or the last one of its row.
 pub fn beside(count: usize, cell: Cell) -> Cell
@@ -23,8 +24,8 @@ pub fn beside(count: usize, cell: Cell) -> Cell
 }
 
 // The text of a label in a cell.
-fn label_text<K: Look>(look: &K, cell: Cell) -> Option<&Text>
-    ensures some { IfSome result (λ t. label_in ((K.sight look.now).contents cell) ≡ Some t.now) }
+fn label_text<K: Look>(look: &K, cell: Cell) -> Option<TextRef<'_>>
+    ensures some { IfSome result (λ t. label_in ((K.sight look.now).contents cell) ≡ Some (seen_text t)) }
     ensures none { IfNone result (label_in ((K.sight look.now).contents cell) ≡ None) }
 {
     match look.content(cell) {
@@ -38,8 +39,8 @@ fn label_text<K: Look>(look: &K, cell: Cell) -> Option<&Text>
 
 /// The text of the item so many columns behind the first one, without its prefix; none where no label stands there, or
 /// behind the last column.
-pub fn item_text<K: Look>(look: &K, first: Cell, place: usize) -> Option<&Text>
-    ensures some { IfSome result (λ t. spec.item_text (K.sight look.now) first place ≡ Some t.now) }
+pub fn item_text<K: Look>(look: &K, first: Cell, place: usize) -> Option<TextRef<'_>>
+    ensures some { IfSome result (λ t. spec.item_text (K.sight look.now) first place ≡ Some (seen_text t)) }
     ensures none { IfNone result (spec.item_text (K.sight look.now) first place ≡ None) }
 {
     if usize::from(first.col).saturating_add(place) < usize::from(COLUMNS) {

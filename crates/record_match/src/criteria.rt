@@ -31,7 +31,7 @@ pub fn content_holds<K: Look>(
     match content {
         ContentRef::Blank => Ok(true),
         ContentRef::Number(number) => Ok(equals_number(*number, value)),
-        ContentRef::Label(_, pattern) => Ok(fits(pattern, value)),
+        ContentRef::Label(_, pattern) => Ok(fits(*pattern, value)),
         ContentRef::Formula(formula) => {
             let value = glance_within(formula, place, look, scene)?;
             Ok(is_true(&value))

@@ -4,15 +4,16 @@ ghost use Rattle.std.specs.List.{list_all};
 ghost use Rattle.grid_address.specs.Lines.{at, columns_of};
 ghost use Rattle.record_match.specs.Fields.{field_named, has_fields, is_label_at, is_no_field, label_in, same_label};
 ghost use Rattle.formula_parts.specs.Outlook.{Sight};
+ghost use Rattle.lics_text.specs.Seen.{seen_text};
 
 use formula_parts::Look;
 use formula_tree::ContentRef;
 use grid_address::{Cell, Span, column_at, header};
-use lics_text::Text;
+use lics_text::TextRef;
 
 // The text of a label in a cell.
-fn label_at<K: Look>(look: &K, cell: Cell) -> Option<&Text>
-    ensures some { IfSome result (λ t. label_in ((K.sight look.now).contents cell) ≡ Some t.now) }
+fn label_at<K: Look>(look: &K, cell: Cell) -> Option<TextRef<'_>>
+    ensures some { IfSome result (λ t. label_in ((K.sight look.now).contents cell) ≡ Some (seen_text t)) }
     ensures none { IfNone result (label_in ((K.sight look.now).contents cell) ≡ None) }
 {
     match look.content(cell) {

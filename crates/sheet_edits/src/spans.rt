@@ -138,7 +138,7 @@ fn copied_state(store: &Store, cell: Cell) -> Result<CellState, Memory>
     ensures { IfOk result (λ s. s ≡ copied_state (map.get store.now.cells cell)) }
 {
     match store.get(cell) {
-        Some(state) => first_state(store.alloc(), state.content().copy()?, state.format()),
+        Some(state) => first_state(store.alloc(), state.copied_content()?, state.format()),
         None => Ok(CellState::blank(Format::DEFAULT)),
     }
 }

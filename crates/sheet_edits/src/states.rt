@@ -21,7 +21,7 @@ pub fn first_state(alloc: Global, content: Content, format: Format) -> Result<Ce
     match content {
         Content::Blank => Ok(CellState::blank(format)),
         Content::Number(number) => Ok(CellState::number(number, format)),
-        Content::Label(prefix, text) => CellState::label(alloc, prefix, text, format),
+        Content::Label(prefix, text) => CellState::label(alloc, prefix, text.bytes(), format),
         Content::Formula(formula) => CellState::formula(formula, Value::Num(Fixed::ZERO), format),
     }
 }

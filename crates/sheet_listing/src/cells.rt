@@ -5,6 +5,7 @@ ghost use Rattle.lics_text.specs.Prefixes.{prefix_byte};
 ghost use Rattle.sheet_listing.specs.Lines.{line};
 ghost use Rattle.sheet_listing.specs.Listed.{cell_line, cell_lines, content_text, saved_text, unprotected_mark, value_text};
 ghost use Rattle.sheet_listing.specs.Waiting.{added, HasFailed, IsFront};
+ghost use Rattle.lics_text.specs.Seen.{seen_text};
 
 use crate::lines::put_line;
 use crate::writing::{WriteFault, write_blocks};
@@ -13,7 +14,7 @@ use fixed_value::write_short;
 use formula_text::print_whole;
 use formula_tree::{ContentRef, ValueRef};
 use grid_address::{Cell, cell_text};
-use lics_text::{LabelPrefix, Memory, Text};
+use lics_text::{LabelPrefix, Memory, TextRef};
 use outside_world::Notes;
 use range_names::Names;
 use sheet_store::{CellState, Store};
@@ -29,8 +30,8 @@ fn set_text(bytes: &[u8], into: &mut Vec<u8>) -> Result<(), Memory>
 }
 
 // Puts a label with its prefix in the place of what was there.
-fn set_label(prefix: LabelPrefix, text: &Text, into: &mut Vec<u8>) -> Result<(), Memory>
-    ensures { OnOk result (into.new.items ≡ prefix_byte prefix ∷ text.now) }
+fn set_label(prefix: LabelPrefix, text: TextRef<'_>, into: &mut Vec<u8>) -> Result<(), Memory>
+    ensures { OnOk result (into.new.items ≡ prefix_byte prefix ∷ seen_text text.entry) }
 {
     set_text(&[prefix.byte()], into)?;
     into.extend_from_slice(text.bytes())?;
@@ -38,8 +39,8 @@ fn set_label(prefix: LabelPrefix, text: &Text, into: &mut Vec<u8>) -> Result<(),
 }
 
 // Puts a text between quotes in the place of what was there.
-fn set_quoted(text: &Text, into: &mut Vec<u8>) -> Result<(), Memory>
-    ensures { OnOk result (into.new.items ≡ ascii.quote ∷ (text.now ++ ascii.quote ∷ [])) }
+fn set_quoted(text: TextRef<'_>, into: &mut Vec<u8>) -> Result<(), Memory>
+    ensures { OnOk result (into.new.items ≡ ascii.quote ∷ (seen_text text.entry ++ ascii.quote ∷ [])) }
 {
     set_text(b"\"", into)?;
     into.extend_from_slice(text.bytes())?;

@@ -29,7 +29,7 @@ fn state_after(
     match state.content() {
         ContentRef::Formula(formula) => {
             let formula = formula_after(shift, old_at, new_at, formula)?;
-            CellState::formula(formula, state.value().copy()?, state.format())
+            state.with_formula(formula)
         }
         ContentRef::Blank | ContentRef::Number(_) | ContentRef::Label(_, _) => state.copy(alloc),
     }

@@ -3,12 +3,14 @@ ghost use Rattle.std.specs.Prelude.{◌≡◌, true, IfOk};
 ghost use Rattle.formula_tree.specs.Seen.{seen_content, seen_value};
 ghost use Rattle.formula_tree.specs.declared.value.Content.TheVariants as content;
 ghost use Rattle.formula_tree.specs.declared.value.Value.TheVariants as value;
+ghost use Rattle.lics_text.specs.Bytes.{IsText};
 ghost use Rattle.sheet_store.specs.Grid.{blank_state, is_blank, is_formula, is_kept};
+ghost use Rattle.sheet_store.specs.inner.Kept.{state_kept};
 
 use fixed_value::Fixed;
-use formula_tree::{ContentRef, Formula, Value, ValueRef};
+use formula_tree::{Content, ContentRef, Formula, Value, ValueRef};
 use grid_address::Format;
-use lics_text::{LabelPrefix, Memory, Text};
+use lics_text::{LabelPrefix, MAX_LEN, Memory, TextRef, TextRoom};
 use std::alloc::Global;
 use std::marker::Model;
 
@@ -19,16 +21,68 @@ pub(crate) struct Computed {
     value: Value,
 }
 
-// A format with a content; a formula has a value of its own.
+// A format with a content; a formula has a value of its own. The text of a label stands here where it has up to 12
+// bytes, and else in the smallest block that has room for it.
 #[derive(Drop)]
 pub(crate) enum Kept {
     Blank(Format),
     Number(Format, Fixed),
-    Label(Format, LabelPrefix, Box<Text>),
     Formula(Format, Box<Computed>),
+    In12(Format, LabelPrefix, TextRoom<12>),
+    In22(Format, LabelPrefix, Box<TextRoom<22>>),
+    In55(Format, LabelPrefix, Box<TextRoom<55>>),
+    In119(Format, LabelPrefix, Box<TextRoom<119>>),
+    In183(Format, LabelPrefix, Box<TextRoom<183>>),
+    In240(Format, LabelPrefix, Box<TextRoom<MAX_LEN>>),
 }
 
-/// A content with its value and its format byte. It takes 16 bytes, and memory of its own for a label or a formula.
+// A label of more than 22 bytes, whose text has a block of its own.
+#[inline(never)]
+fn in_block(
+    alloc: Global,
+    prefix: LabelPrefix,
+    bytes: &[u8],
+    format: Format,
+) -> Result<Kept, Memory>
+    requires { IsText bytes.now }
+    ensures { IfOk result (λ k. state_kept k ≡ record {
+      content = content.Label prefix bytes.now;
+      value = value.Str bytes.now;
+      format = format;
+    }) }
+{
+    let size = bytes.len();
+    if size <= 55 {
+        Ok(Kept::In55(format, prefix, TextRoom::block(alloc, bytes)?))
+    } else if size <= 119 {
+        Ok(Kept::In119(format, prefix, TextRoom::block(alloc, bytes)?))
+    } else if size <= 183 {
+        Ok(Kept::In183(format, prefix, TextRoom::block(alloc, bytes)?))
+    } else {
+        Ok(Kept::In240(format, prefix, TextRoom::block(alloc, bytes)?))
+    }
+}
+
+// A label as `CellState::label` makes it, by a call of its own.
+#[inline(never)]
+fn copied(
+    alloc: Global,
+    prefix: LabelPrefix,
+    bytes: &[u8],
+    format: Format,
+) -> Result<CellState, Memory>
+    requires { IsText bytes.now }
+    ensures { IfOk result (λ s. s ≡ record {
+      content = content.Label prefix bytes.now;
+      value = value.Str bytes.now;
+      format = format;
+    }) }
+{
+    CellState::label(alloc, prefix, bytes, format)
+}
+
+/// A content with its value and its format byte. It takes 16 bytes, and memory of its own for a formula and for a label
+/// of more than 12 bytes.
 #[derive(Drop)]
 pub struct CellState {
     kept: Kept,
@@ -67,23 +121,30 @@ impl CellState {
         }
     }
 
-    /// A label in a format.
+    /// A label in a format, whose text is of bytes that are a text's.
+    #[inline(always)]
     pub fn label(
         alloc: Global,
         prefix: LabelPrefix,
-        text: Text,
+        bytes: &[u8],
         format: Format,
     ) -> Result<CellState, Memory>
+        requires { IsText bytes.now }
         ensures { IfOk result (λ s. s ≡ record {
-          content = content.Label prefix text;
-          value = value.Str text;
+          content = content.Label prefix bytes.now;
+          value = value.Str bytes.now;
           format = format;
         }) }
     {
-        let text = Box::new(alloc, text)?;
-        Ok(CellState {
-            kept: Kept::Label(format, prefix, text),
-        })
+        let size = bytes.len();
+        let kept = if size <= 12 {
+            Kept::In12(format, prefix, TextRoom::of(alloc, bytes))
+        } else if size <= 22 {
+            Kept::In22(format, prefix, TextRoom::small_block(alloc, bytes)?)
+        } else {
+            in_block(alloc, prefix, bytes, format)?
+        };
+        Ok(CellState { kept })
     }
 
     /// A formula with its value in a format.
@@ -97,6 +158,19 @@ impl CellState {
         })
     }
 
+    /// The same value and format with another formula.
+    pub fn with_formula(&self, formula: Formula) -> Result<CellState, Memory>
+        requires { is_formula self.now.content ≡ true }
+        ensures { IfOk result (λ s. s ≡ record self.now { content = content.Formula formula }) }
+    {
+        match &self.kept {
+            Kept::Formula(format, computed) => {
+                CellState::formula(formula, computed.value.copy()?, *format)
+            }
+            _ => unreachable!(),
+        }
+    }
+
     /// The content.
     #[inline(always)]
     pub fn content(&self) -> ContentRef<'_>
@@ -105,8 +179,31 @@ impl CellState {
         match &self.kept {
             Kept::Blank(_) => ContentRef::Blank,
             Kept::Number(_, number) => ContentRef::Number(*number),
-            Kept::Label(_, prefix, text) => ContentRef::Label(*prefix, text),
             Kept::Formula(_, computed) => ContentRef::Formula(&computed.formula),
+            Kept::In12(_, prefix, text) => ContentRef::Label(*prefix, TextRef::In12(text)),
+            Kept::In22(_, prefix, text) => ContentRef::Label(*prefix, TextRef::In22(text)),
+            Kept::In55(_, prefix, text) => ContentRef::Label(*prefix, TextRef::In55(text)),
+            Kept::In119(_, prefix, text) => ContentRef::Label(*prefix, TextRef::In119(text)),
+            Kept::In183(_, prefix, text) => ContentRef::Label(*prefix, TextRef::In183(text)),
+            Kept::In240(_, prefix, text) => ContentRef::Label(*prefix, TextRef::In240(text)),
+        }
+    }
+
+    /// An equal content, in memory of its own. A formula's tree is shared with this one's.
+    #[inline(always)]
+    pub fn copied_content(&self) -> Result<Content, Memory>
+        ensures { IfOk result (λ c. c ≡ self.now.content) }
+    {
+        match &self.kept {
+            Kept::Blank(_) => Ok(Content::Blank),
+            Kept::Number(_, number) => Ok(Content::Number(*number)),
+            Kept::Formula(_, computed) => Ok(Content::Formula(computed.formula.copy()?)),
+            Kept::In12(_, prefix, text) => Ok(Content::Label(*prefix, text.copy()?)),
+            Kept::In22(_, prefix, text) => Ok(Content::Label(*prefix, text.copy()?)),
+            Kept::In55(_, prefix, text) => Ok(Content::Label(*prefix, text.copy()?)),
+            Kept::In119(_, prefix, text) => Ok(Content::Label(*prefix, text.copy()?)),
+            Kept::In183(_, prefix, text) => Ok(Content::Label(*prefix, text.copy()?)),
+            Kept::In240(_, prefix, text) => Ok(Content::Label(*prefix, text.copy()?)),
         }
     }
 
@@ -118,8 +215,30 @@ impl CellState {
         match &self.kept {
             Kept::Blank(_) => ValueRef::Blank,
             Kept::Number(_, number) => ValueRef::Num(*number),
-            Kept::Label(_, _, text) => ValueRef::Str(text),
             Kept::Formula(_, computed) => computed.value.as_ref(),
+            Kept::In12(_, _, text) => ValueRef::Str(TextRef::In12(text)),
+            Kept::In22(_, _, text) => ValueRef::Str(TextRef::In22(text)),
+            Kept::In55(_, _, text) => ValueRef::Str(TextRef::In55(text)),
+            Kept::In119(_, _, text) => ValueRef::Str(TextRef::In119(text)),
+            Kept::In183(_, _, text) => ValueRef::Str(TextRef::In183(text)),
+            Kept::In240(_, _, text) => ValueRef::Str(TextRef::In240(text)),
+        }
+    }
+
+    /// An equal value, in memory of its own.
+    pub fn copied_value(&self) -> Result<Value, Memory>
+        ensures { IfOk result (λ v. v ≡ self.now.value) }
+    {
+        match &self.kept {
+            Kept::Blank(_) => Ok(Value::Blank),
+            Kept::Number(_, number) => Ok(Value::Num(*number)),
+            Kept::Formula(_, computed) => computed.value.copy(),
+            Kept::In12(_, _, text) => Ok(Value::Str(text.copy()?)),
+            Kept::In22(_, _, text) => Ok(Value::Str(text.copy()?)),
+            Kept::In55(_, _, text) => Ok(Value::Str(text.copy()?)),
+            Kept::In119(_, _, text) => Ok(Value::Str(text.copy()?)),
+            Kept::In183(_, _, text) => Ok(Value::Str(text.copy()?)),
+            Kept::In240(_, _, text) => Ok(Value::Str(text.copy()?)),
         }
     }
 
@@ -131,8 +250,13 @@ impl CellState {
         match &self.kept {
             Kept::Blank(format) => *format,
             Kept::Number(format, _) => *format,
-            Kept::Label(format, _, _) => *format,
             Kept::Formula(format, _) => *format,
+            Kept::In12(format, _, _) => *format,
+            Kept::In22(format, _, _) => *format,
+            Kept::In55(format, _, _) => *format,
+            Kept::In119(format, _, _) => *format,
+            Kept::In183(format, _, _) => *format,
+            Kept::In240(format, _, _) => *format,
         }
     }
 
@@ -157,8 +281,13 @@ impl CellState {
         match &mut self.kept {
             Kept::Blank(old) => *old = format,
             Kept::Number(old, _) => *old = format,
-            Kept::Label(old, _, _) => *old = format,
             Kept::Formula(old, _) => *old = format,
+            Kept::In12(old, _, _) => *old = format,
+            Kept::In22(old, _, _) => *old = format,
+            Kept::In55(old, _, _) => *old = format,
+            Kept::In119(old, _, _) => *old = format,
+            Kept::In183(old, _, _) => *old = format,
+            Kept::In240(old, _, _) => *old = format,
         }
     }
 
@@ -170,7 +299,7 @@ impl CellState {
     {
         match &mut self.kept {
             Kept::Formula(_, computed) => computed.value = value,
-            Kept::Blank(_) | Kept::Number(_, _) | Kept::Label(_, _, _) => unreachable!(),
+            _ => unreachable!(),
         }
     }
 
@@ -180,7 +309,7 @@ impl CellState {
     {
         match &self.kept {
             Kept::Blank(format) => format.0 != Format::DEFAULT.0,
-            Kept::Number(_, _) | Kept::Label(_, _, _) | Kept::Formula(_, _) => true,
+            _ => true,
         }
     }
 
@@ -192,12 +321,15 @@ impl CellState {
         match &self.kept {
             Kept::Blank(format) => Ok(CellState::blank(*format)),
             Kept::Number(format, number) => Ok(CellState::number(*number, *format)),
-            Kept::Label(format, prefix, text) => {
-                CellState::label(alloc, *prefix, text.copy()?, *format)
-            }
             Kept::Formula(format, computed) => {
                 CellState::formula(computed.formula.copy()?, computed.value.copy()?, *format)
             }
+            Kept::In12(format, prefix, text) => copied(alloc, *prefix, text.bytes(), *format),
+            Kept::In22(format, prefix, text) => copied(alloc, *prefix, text.bytes(), *format),
+            Kept::In55(format, prefix, text) => copied(alloc, *prefix, text.bytes(), *format),
+            Kept::In119(format, prefix, text) => copied(alloc, *prefix, text.bytes(), *format),
+            Kept::In183(format, prefix, text) => copied(alloc, *prefix, text.bytes(), *format),
+            Kept::In240(format, prefix, text) => copied(alloc, *prefix, text.bytes(), *format),
         }
     }
 }

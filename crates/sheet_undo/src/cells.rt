@@ -6,24 +6,31 @@ ghost use Rattle.grid_address.specs.Place.{same_place};
 ghost use Rattle.formula_tree.specs.Values.{same_value};
 ghost use Rattle.sheet_undo.specs.inner.Same.{entry, same_content, same_entry, same_state, IsWritten};
 ghost use Rattle.wk1_formula.specs.Written.{code_of};
+ghost use Rattle.lics_text.specs.Seen.{seen_text};
 
 use formula_tree::{ContentRef, Formula, ValueRef};
 use grid_address::Cell;
-use lics_text::{LabelPrefix, Memory, Text};
+use lics_text::{LabelPrefix, Memory, TextRef};
 use sheet_store::{CellState, Entries, Store};
 use std::alloc::Global;
 use wk1_formula::write_code;
 
 // Whether two texts are one.
-fn is_same_text(one: &Text, other: &Text) -> bool
-    ensures { result ≡ bytes_eq one.now other.now }
+fn is_same_text(one: TextRef<'_>, other: TextRef<'_>) -> bool
+    ensures { result ≡ bytes_eq (seen_text one.entry) (seen_text other.entry) }
 {
     one.bytes() == other.bytes()
 }
 
 // Whether two labels are one.
-fn is_same_label(prefix: LabelPrefix, one: &Text, mark: LabelPrefix, other: &Text) -> bool
-    ensures { result ≡ (nat_eq (prefix_byte prefix) (prefix_byte mark) && bytes_eq one.now other.now) }
+fn is_same_label(
+    prefix: LabelPrefix,
+    one: TextRef<'_>,
+    mark: LabelPrefix,
+    other: TextRef<'_>,
+) -> bool
+    ensures { result
+        ≡ (nat_eq (prefix_byte prefix) (prefix_byte mark) && bytes_eq (seen_text one.entry) (seen_text other.entry)) }
 {
     prefix.byte() == mark.byte() && is_same_text(one, other)
 }

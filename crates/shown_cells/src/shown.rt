@@ -130,7 +130,14 @@ pub fn shown_in<'a>(
             }
             Some(value_in(&state.value(), format, width))
         }
-        ContentRef::Number(_) | ContentRef::Label(_, _) => {
+        ContentRef::Label(prefix, text) => {
+            let is_hidden = format.is_shown_as(Format::HIDDEN);
+            if is_hidden {
+                return Some(Shown::RunsOn(b""));
+            }
+            Some(label_in(prefix, text.bytes(), width))
+        }
+        ContentRef::Number(_) => {
             let shown = shown_content(&content, &state.value(), names, cell, format, width);
             Some(shown)
         }

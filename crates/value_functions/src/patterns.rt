@@ -3,9 +3,10 @@ ghost use Rattle.std.specs.Prelude.{◌≡◌, ◌≤◌, ◌==◌, ◌||◌, le
 ghost use Rattle.lics_text.specs.Ascii as ascii;
 ghost use Rattle.formula_tree.specs.Seen.{seen_value};
 ghost use Rattle.value_functions.specs.Patterns.{fits, is_like, is_negated, same_letter, value_is_like};
+ghost use Rattle.lics_text.specs.Seen.{seen_text};
 
 use formula_tree::ValueRef;
-use lics_text::Text;
+use lics_text::TextRef;
 
 // Whether a byte of a pattern takes the rest of a text.
 fn is_rest(byte: u8) -> bool
@@ -66,8 +67,8 @@ fn is_negated(pattern: &[u8]) -> bool
 
 /// Whether a value fits a label that stands as a condition: it is a text that is like the pattern, and with a leading
 /// `~` it is none. (Release 2 manual; that a negated pattern fits what is no text is this project's own choice.)
-pub fn fits(label: &Text, value: &ValueRef<'_>) -> bool
-    ensures { result ≡ fits label.now (seen_value value.now) }
+pub fn fits(label: TextRef<'_>, value: &ValueRef<'_>) -> bool
+    ensures { result ≡ fits (seen_text label.entry) (seen_value value.now) }
 {
     let pattern = label.bytes();
     if is_negated(pattern) {

@@ -15,11 +15,12 @@ ghost use Rattle.wk1_records.specs.declared.kind.RecordKind.TheVariants as kind;
 ghost use Rattle.wk1_records.specs.Bodies.{head, made};
 ghost use Rattle.wk1_records.specs.Kinds.{number_of};
 ghost use Rattle.wk1_file.specs.Saved.{cell_pieces, content_pieces, formula_piece, text_pieces, integer_bytes, is_integer, number_piece, value_bits};
+ghost use Rattle.lics_text.specs.Seen.{seen_text};
 
 use fixed_value::Fixed;
 use formula_tree::{ContentRef, Formula, ValueRef};
 use grid_address::Cell;
-use lics_text::{LabelPrefix, Memory, Text};
+use lics_text::{LabelPrefix, Memory, TextRef};
 use sheet_store::{CellState, Store};
 use std::alloc::Global;
 use wk1_formula::{ERR_BITS, NA_BITS, double_bits, put, write_code};
@@ -52,11 +53,11 @@ pub fn put_label(
     cell: Cell,
     state: &CellState,
     prefix: LabelPrefix,
-    text: &Text,
+    text: TextRef<'_>,
     into: &mut Vec<u8>,
 ) -> Result<(), Memory>
-    ensures { OnOk result (into.new.items ≡ into.old.items
-        ++ piece_bytes (made kind.Label (head cell state.now ++ prefix_byte prefix ∷ (text.now ++ 0 ∷ [])))) }
+    ensures { let body = head cell state.now ++ prefix_byte prefix ∷ (seen_text text.entry ++ 0 ∷ []) in
+        OnOk result (into.new.items ≡ into.old.items ++ piece_bytes (made kind.Label body)) }
 {
     let size = text.bytes().len() as u16;
     put(
@@ -71,11 +72,11 @@ pub fn put_label(
 pub fn put_text(
     cell: Cell,
     state: &CellState,
-    text: &Text,
+    text: TextRef<'_>,
     into: &mut Vec<u8>,
 ) -> Result<(), Memory>
     ensures { OnOk result (into.new.items
-        ≡ into.old.items ++ piece_bytes (made kind.Str (head cell state.now ++ (text.now ++ 0 ∷ [])))) }
+        ≡ into.old.items ++ piece_bytes (made kind.Str (head cell state.now ++ (seen_text text.entry ++ 0 ∷ [])))) }
 {
     let size = text.bytes().len() as u16;
     put(
@@ -287,8 +288,8 @@ fn number_is_sized(number: Fixed)
 
 // A text has at most 240 bytes, each at least 32. Nothing is done: the contract says it.
 #[tactic(auto, using(formula_tree::proofs::Ranged::as_text))]
-fn text_is_short(text: &Text)
-    ensures { is_text text.now ≡ true }
+fn text_is_short(text: TextRef<'_>)
+    ensures { is_text (seen_text text.entry) ≡ true }
 {
     let _ = text.bytes();
 }

@@ -276,8 +276,7 @@ fn label_of(
     requires text { is_text bytes.now ≡ true }
     ensures { IfOk result (λ s. s ≡ state_of body.now (content.Label prefix bytes.now) (value.Str bytes.now)) }
 {
-    let text = Text::copy_of(alloc, bytes)?;
-    CellState::label(alloc, prefix, text, format_in(body))
+    CellState::label(alloc, prefix, bytes, format_in(body))
 }
 
 // What the record of a label says.

@@ -3,12 +3,13 @@ ghost use Rattle.std.specs.Prelude.{◌≡◌, ◌≤◌, ◌∷◌, [], length,
 ghost use Rattle.lics_text.specs.Prefixes.{prefix_byte};
 ghost use Rattle.fixed_value.specs.Written.{short};
 ghost use Rattle.work_sheet.specs.Typed.{typed, typed_content};
+ghost use Rattle.lics_text.specs.Seen.{seen_text};
 
 use fixed_value::{Fixed, write_short};
 use formula_text::print;
 use formula_tree::ContentRef;
 use grid_address::Cell;
-use lics_text::{LabelPrefix, Line, MAX_LEN, Text};
+use lics_text::{LabelPrefix, Line, MAX_LEN, TextRef};
 use range_names::Names;
 use sheet_store::{CellState, Store};
 
@@ -27,10 +28,10 @@ fn put_number(number: Fixed, into: &mut Line) -> bool
 }
 
 // A label's prefix and its text; of a text of 240 bytes the last one has no room.
-fn put_label(prefix: LabelPrefix, text: &Text, into: &mut Line) -> bool
+fn put_label(prefix: LabelPrefix, text: TextRef<'_>, into: &mut Line) -> bool
     requires { into.old ≡ [] }
-    ensures line { into.new ≡ take MAX_LEN (prefix_byte prefix ∷ text.now) }
-    ensures whole { result ≡ nat_le (length (prefix_byte prefix ∷ text.now)) MAX_LEN }
+    ensures line { into.new ≡ take MAX_LEN (prefix_byte prefix ∷ seen_text text.entry) }
+    ensures whole { result ≡ nat_le (length (prefix_byte prefix ∷ seen_text text.entry)) MAX_LEN }
 {
     let bytes = text.bytes();
     let room = MOST_OF_LABEL.min(bytes.len());

@@ -1,6 +1,7 @@
 use Rattle.std.proofs.Common.{◌≡◌, ◌+◌, ◌++◌, ◌∷◌, ◌∙◌, [], OnOk, ap, append_assoc, arith, length, subst}
 use Rattle.std.proofs.lemmas.List.{length-append}
 use Rattle.lics_text.specs.Prefixes.{prefix_byte}
+use Rattle.lics_text.specs.Seen.{seen_text}
 use Rattle.wk1_records.specs.Bodies.{head}
 use Rattle.wk1_records.specs.Kinds.{number_of}
 use Rattle.wk1_records.specs.declared.kind.RecordKind.TheVariants as kind
@@ -10,7 +11,7 @@ use Rattle.wk1_file.proofs.put_cells.put_label.Goals as goal
 pub returns : goal.returns
 returns c =
     let old = c.args.into.now.items in
-    let text = c.args.text.now in
+    let text = seen_text c.args.text in
     let size = length c.bytes.result.now in
     let begun = c.put.new.into.items in
     let start = head c.args.cell c.args.state.now ++ prefix_byte c.args.prefix ∷ [] in
