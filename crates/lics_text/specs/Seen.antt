@@ -6,7 +6,7 @@ use Rattle.lics_text.specs.declared.text_ref.TextRef.TheVariants as text_ref
 -- the text that is looked at
 abbrev pub seen_text : TextRef → List ℕ
 seen_text (text_ref.Text t) = t.now
-seen_text (text_ref.In12 t) = t.now
+seen_text (text_ref.In13 t) = t.now
 seen_text (text_ref.In22 t) = t.now
 seen_text (text_ref.In55 t) = t.now
 seen_text (text_ref.In119 t) = t.now

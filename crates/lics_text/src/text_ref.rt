@@ -7,14 +7,14 @@ ghost use Rattle.lics_text.specs.Bytes.{IsText};
 ghost use Rattle.lics_text.specs.Seen.{seen_text};
 
 use crate::text::fold_cmp;
-use crate::{MAX_LEN, Memory, Text, TextRoom};
+use crate::{MAX_LEN, Memory, ShortText, Text, TextRoom};
 use std::cmp::Ordering;
 
 /// A text that is looked at, however it is kept.
 #[derive(Clone, Copy)]
 pub enum TextRef<'a> {
     Text(&'a Text),
-    In12(&'a TextRoom<12>),
+    In13(&'a ShortText),
     In22(&'a TextRoom<22>),
     In55(&'a TextRoom<55>),
     In119(&'a TextRoom<119>),
@@ -31,7 +31,7 @@ impl<'a> TextRef<'a> {
     {
         match self {
             TextRef::Text(text) => text.bytes(),
-            TextRef::In12(room) => room.bytes(),
+            TextRef::In13(text) => text.bytes(),
             TextRef::In22(room) => room.bytes(),
             TextRef::In55(room) => room.bytes(),
             TextRef::In119(room) => room.bytes(),
@@ -46,7 +46,7 @@ impl<'a> TextRef<'a> {
     {
         match self {
             TextRef::Text(text) => text.copy(),
-            TextRef::In12(room) => room.copy(),
+            TextRef::In13(text) => text.copy(),
             TextRef::In22(room) => room.copy(),
             TextRef::In55(room) => room.copy(),
             TextRef::In119(room) => room.copy(),

@@ -10,7 +10,7 @@ ghost use Rattle.sheet_store.specs.inner.Kept.{state_kept};
 use fixed_value::Fixed;
 use formula_tree::{Content, ContentRef, Formula, Value, ValueRef};
 use grid_address::Format;
-use lics_text::{LabelPrefix, MAX_LEN, Memory, TextRef, TextRoom};
+use lics_text::{LabelPrefix, MAX_LEN, Memory, ShortText, TextRef, TextRoom};
 use std::alloc::Global;
 use std::marker::Model;
 
@@ -21,14 +21,14 @@ pub(crate) struct Computed {
     value: Value,
 }
 
-// A format with a content; a formula has a value of its own. The text of a label stands here where it has up to 12
+// A format with a content; a formula has a value of its own. The text of a label stands here where it has up to 13
 // bytes, and else in the smallest block that has room for it.
 #[derive(Drop)]
 pub(crate) enum Kept {
     Blank(Format),
     Number(Format, Fixed),
     Formula(Format, Box<Computed>),
-    In12(Format, LabelPrefix, TextRoom<12>),
+    In13(Format, LabelPrefix, ShortText),
     In22(Format, LabelPrefix, Box<TextRoom<22>>),
     In55(Format, LabelPrefix, Box<TextRoom<55>>),
     In119(Format, LabelPrefix, Box<TextRoom<119>>),
@@ -82,7 +82,7 @@ fn copied(
 }
 
 /// A content with its value and its format byte. It takes 16 bytes, and memory of its own for a formula and for a label
-/// of more than 12 bytes.
+/// of more than 13 bytes.
 #[derive(Drop)]
 pub struct CellState {
     kept: Kept,
@@ -137,8 +137,8 @@ impl CellState {
         }) }
     {
         let size = bytes.len();
-        let kept = if size <= 12 {
-            Kept::In12(format, prefix, TextRoom::of(alloc, bytes))
+        let kept = if size <= 13 {
+            Kept::In13(format, prefix, ShortText::of(alloc, bytes))
         } else if size <= 22 {
             Kept::In22(format, prefix, TextRoom::small_block(alloc, bytes)?)
         } else {
@@ -180,7 +180,7 @@ impl CellState {
             Kept::Blank(_) => ContentRef::Blank,
             Kept::Number(_, number) => ContentRef::Number(*number),
             Kept::Formula(_, computed) => ContentRef::Formula(&computed.formula),
-            Kept::In12(_, prefix, text) => ContentRef::Label(*prefix, TextRef::In12(text)),
+            Kept::In13(_, prefix, text) => ContentRef::Label(*prefix, TextRef::In13(text)),
             Kept::In22(_, prefix, text) => ContentRef::Label(*prefix, TextRef::In22(text)),
             Kept::In55(_, prefix, text) => ContentRef::Label(*prefix, TextRef::In55(text)),
             Kept::In119(_, prefix, text) => ContentRef::Label(*prefix, TextRef::In119(text)),
@@ -198,7 +198,7 @@ impl CellState {
             Kept::Blank(_) => Ok(Content::Blank),
             Kept::Number(_, number) => Ok(Content::Number(*number)),
             Kept::Formula(_, computed) => Ok(Content::Formula(computed.formula.copy()?)),
-            Kept::In12(_, prefix, text) => Ok(Content::Label(*prefix, text.copy()?)),
+            Kept::In13(_, prefix, text) => Ok(Content::Label(*prefix, text.copy()?)),
             Kept::In22(_, prefix, text) => Ok(Content::Label(*prefix, text.copy()?)),
             Kept::In55(_, prefix, text) => Ok(Content::Label(*prefix, text.copy()?)),
             Kept::In119(_, prefix, text) => Ok(Content::Label(*prefix, text.copy()?)),
@@ -216,7 +216,7 @@ impl CellState {
             Kept::Blank(_) => ValueRef::Blank,
             Kept::Number(_, number) => ValueRef::Num(*number),
             Kept::Formula(_, computed) => computed.value.as_ref(),
-            Kept::In12(_, _, text) => ValueRef::Str(TextRef::In12(text)),
+            Kept::In13(_, _, text) => ValueRef::Str(TextRef::In13(text)),
             Kept::In22(_, _, text) => ValueRef::Str(TextRef::In22(text)),
             Kept::In55(_, _, text) => ValueRef::Str(TextRef::In55(text)),
             Kept::In119(_, _, text) => ValueRef::Str(TextRef::In119(text)),
@@ -233,7 +233,7 @@ impl CellState {
             Kept::Blank(_) => Ok(Value::Blank),
             Kept::Number(_, number) => Ok(Value::Num(*number)),
             Kept::Formula(_, computed) => computed.value.copy(),
-            Kept::In12(_, _, text) => Ok(Value::Str(text.copy()?)),
+            Kept::In13(_, _, text) => Ok(Value::Str(text.copy()?)),
             Kept::In22(_, _, text) => Ok(Value::Str(text.copy()?)),
             Kept::In55(_, _, text) => Ok(Value::Str(text.copy()?)),
             Kept::In119(_, _, text) => Ok(Value::Str(text.copy()?)),
@@ -251,7 +251,7 @@ impl CellState {
             Kept::Blank(format) => *format,
             Kept::Number(format, _) => *format,
             Kept::Formula(format, _) => *format,
-            Kept::In12(format, _, _) => *format,
+            Kept::In13(format, _, _) => *format,
             Kept::In22(format, _, _) => *format,
             Kept::In55(format, _, _) => *format,
             Kept::In119(format, _, _) => *format,
@@ -282,7 +282,7 @@ impl CellState {
             Kept::Blank(old) => *old = format,
             Kept::Number(old, _) => *old = format,
             Kept::Formula(old, _) => *old = format,
-            Kept::In12(old, _, _) => *old = format,
+            Kept::In13(old, _, _) => *old = format,
             Kept::In22(old, _, _) => *old = format,
             Kept::In55(old, _, _) => *old = format,
             Kept::In119(old, _, _) => *old = format,
@@ -324,7 +324,7 @@ impl CellState {
             Kept::Formula(format, computed) => {
                 CellState::formula(computed.formula.copy()?, computed.value.copy()?, *format)
             }
-            Kept::In12(format, prefix, text) => copied(alloc, *prefix, text.bytes(), *format),
+            Kept::In13(format, prefix, text) => copied(alloc, *prefix, text.bytes(), *format),
             Kept::In22(format, prefix, text) => copied(alloc, *prefix, text.bytes(), *format),
             Kept::In55(format, prefix, text) => copied(alloc, *prefix, text.bytes(), *format),
             Kept::In119(format, prefix, text) => copied(alloc, *prefix, text.bytes(), *format),
