@@ -1,6 +1,7 @@
 -- Texts in records: bytes up to a 00, of which none is below 32.
 use Rattle.std.proofs.Common.{◌≡◌, ℕ, zero, suc, ◌≤◌, ◌<◌, Bool, true, false, nat_le, get_or, take, List, [], ◌∷◌}
-use Rattle.std.proofs.Common.{length, refl, ap, arith, sym, ◌∙◌, length-take}
+use Rattle.std.proofs.Common.{◌+◌, ◌-◌, length, refl, ap, arith, sym, ◌∙◌, inl, inr, length-take}
+use Rattle.std.proofs.lemmas.Bool.{cases_lt}
 use Rattle.std.proofs.lemmas.List.{get_or-take}
 use Rattle.std.specs.List.{list_all}
 use Rattle.std.specs.Prelude.{◌==◌, ◌&&◌, Option, Some, None, Ok, Err, if◌then◌else◌}
@@ -58,6 +59,22 @@ large_front bytes at inside large k less =
     let same : get_or (take at bytes) k 0 ≡ get_or bytes k 0 = get_or-take at bytes k 0 less in
     let x : 32 ≤ get_or (take at bytes) k 0 = large k there in
     omega (arith, same, x)
+
+-- bytes are large in a list where its first ones and its last ones are, and these meet
+pub large_ends : (bytes : List ℕ) (n least : ℕ) → n ≤ length bytes → length bytes ≤ n + n → 32 ≤ least
+    → ((k : ℕ) → k < n → (least ≤ get_or bytes k 0) × (least ≤ get_or bytes (length bytes - n + k) 0))
+    → (k : ℕ) → k < length bytes → 32 ≤ get_or bytes k 0
+large_ends bytes n least more few large each k inside =
+    elim (cases_lt k n) [
+      | inl less ↦ (let x : least ≤ get_or bytes k 0 = (each k less).0 in omega (arith, x, large))
+      | inr later ↦ (
+          let last = length bytes - n in
+          let place : last + (k - last) ≡ k = omega (arith, later, few) in
+          let same : get_or bytes (last + (k - last)) 0 ≡ get_or bytes k 0 = ap (λ j. get_or bytes j 0) place in
+          let x : least ≤ get_or bytes (last + (k - last)) 0 =
+          (each (k - last) (omega (arith, inside, later, few, more))).1 in
+          omega (arith, same, x, large))
+    ]
 
 -- a byte below 32 before the first 00 is in the text that ends there
 low_byte : (bytes : List ℕ) (at : ℕ) → ((k : ℕ) → k < at → 32 ≤ get_or bytes k 0) → at < length bytes

@@ -148,7 +148,8 @@ pub fn integer_in(body: &[u8], cell: Cell) -> Entry
 }
 
 // Whether no byte is below 32. Each is looked at, so that many are at once.
-fn are_words(bytes: &[u8]) -> bool
+#[inline(never)]
+fn are_all_words(bytes: &[u8]) -> bool
     ensures { result ≡ true → (k : ℕ) → k < length bytes.now → 32 ≤ get_or bytes.now k 0 }
 {
     let mut least = 255;
@@ -156,6 +157,52 @@ fn are_words(bytes: &[u8]) -> bool
         least = bytes[at].min(least);
     }
     least >= b' '
+}
+
+// The same of fewer than eight bytes, one by one.
+#[inline(always)]
+fn are_few_words(bytes: &[u8]) -> bool
+    requires { length bytes.now < 8 }
+    ensures { result ≡ true → (k : ℕ) → k < length bytes.now → 32 ≤ get_or bytes.now k 0 }
+{
+    for at in 0..bytes.len() {
+        if bytes[at] < b' ' {
+            return false;
+        }
+    }
+    true
+}
+
+// The same of so many bytes and up to twice as many, by the first ones and the last ones, which may overlap.
+#[inline(always)]
+fn are_words_at_ends<const N: usize>(bytes: &[u8]) -> bool
+    requires more { N ≤ length bytes.now }
+    requires few { length bytes.now ≤ N + N }
+    ensures { result ≡ true → (k : ℕ) → k < length bytes.now → 32 ≤ get_or bytes.now k 0 }
+{
+    let last = bytes.len() - N;
+    let mut least = 255;
+    for at in 0..N {
+        least = bytes[at].min(bytes[last + at]).min(least);
+    }
+    least >= b' '
+}
+
+// Whether no byte is below 32, by a few steps for the lengths that labels mostly have.
+#[inline(always)]
+fn are_words(bytes: &[u8]) -> bool
+    ensures { result ≡ true → (k : ℕ) → k < length bytes.now → 32 ≤ get_or bytes.now k 0 }
+{
+    if bytes.len() < 8 {
+        return are_few_words(bytes);
+    }
+    if bytes.len() <= 16 {
+        return are_words_at_ends::<8>(bytes);
+    }
+    if bytes.len() <= 32 {
+        return are_words_at_ends::<16>(bytes);
+    }
+    are_all_words(bytes)
 }
 
 // The bytes before the last, where that is 00 and none of them is below 32.
