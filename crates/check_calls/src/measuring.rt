@@ -16,14 +16,6 @@ fn sheet_of(alloc: Global, file: &[u8]) -> Result<SavedSheet, Stop> {
     }
 }
 
-// The last used row and column, as one number.
-fn last_used(sheet: &SavedSheet) -> u64 {
-    match sheet.store.last_used() {
-        Some(cell) => u64::from(cell.row) * 256 + u64::from(cell.col),
-        None => 0,
-    }
-}
-
 // How many bytes a sheet is written in. The sheet is let go before a fault is told.
 fn written_len(alloc: Global, sheet: SavedSheet) -> Result<u64, Stop> {
     let written = write(alloc, &sheet);
@@ -31,12 +23,12 @@ fn written_len(alloc: Global, sheet: SavedSheet) -> Result<u64, Stop> {
     Ok(written?.len() as u64)
 }
 
-// The last used cell of the sheet that a file is read as.
-fn last_used_in(alloc: Global, file: &[u8]) -> Result<u64, Stop> {
+// How many cells the sheet has that a file is read as. Nothing but reading goes over them.
+fn cells_in(alloc: Global, file: &[u8]) -> Result<u64, Stop> {
     let sheet = sheet_of(alloc, file)?;
-    let last = last_used(&sheet);
+    let count = sheet.store.held_count() as u64;
     drop(sheet);
-    Ok(last)
+    Ok(count)
 }
 
 // Tells the bytes of the file and of the one that is written, and how many microseconds reading and writing took.
@@ -64,10 +56,10 @@ fn sum_of(word: &str) -> Result<u64, Stop> {
 
 /// Takes a file from standard input and does what the word names: `make` takes the bytes alone, `read` reads the
 /// sheet too, `write` then lets the bytes go and writes the sheet again, `write-beside` writes it while the bytes stay
-/// in memory, and `time` tells the bytes that were read and written and the microseconds of each. `read` tells the
-/// last used cell, as a number in row order, and the others how many bytes there are in the end. With a kind of
-/// numbers, `tenths`, `whole`, `rounded`, `fixed` or `hidden`, 10,000 of them are shown in cells, and the sum of their
-/// last bytes is told. `Stop::Line` is another word, or a file that can't be read.
+/// in memory, and `time` tells the bytes that were read and written and the microseconds of each. `read` tells how
+/// many cells there are, and the others how many bytes there are in the end. With a kind of numbers, `tenths`, `whole`,
+/// `rounded`, `fixed` or `hidden`, 10,000 of them are shown in cells, and the sum of their last bytes is told.
+/// `Stop::Line` is another word, or a file that can't be read.
 pub fn measure(rt: &HostRuntime, word: &str) -> Result<(), Stop> {
     let alloc = rt.alloc();
     let mut file = Vec::new(alloc);
@@ -75,7 +67,7 @@ pub fn measure(rt: &HostRuntime, word: &str) -> Result<(), Stop> {
     let mut out = rt.stdout();
     let told = match word {
         "make" => file.len() as u64,
-        "read" => last_used_in(alloc, file.as_slice())?,
+        "read" => cells_in(alloc, file.as_slice())?,
         "write" => {
             let sheet = sheet_of(alloc, file.as_slice())?;
             drop(file);
