@@ -92,14 +92,25 @@ fn is_at_most(x: Fixed, y: Fixed) -> bool
     !(y.millionths() < x.millionths())
 }
 
-/// Whether the lookup of a number goes on past a value.
-pub fn passes(x: Fixed, value: &ValueRef<'_>) -> bool
+// Whether the lookup of a number goes on past a value.
+fn passes(x: Fixed, value: &ValueRef<'_>) -> bool
     ensures { result ≡ passes x (seen_value value.now) }
 {
     match value {
         ValueRef::Num(y) => is_at_most(*y, x),
         ValueRef::Blank | ValueRef::Str(_) => is_at_most(Fixed::ZERO, x),
         ValueRef::Err | ValueRef::Na => false,
+    }
+}
+
+/// The same of a cell's value.
+#[inline(always)]
+pub fn passes_at<K: Look>(x: Fixed, look: &K, cell: Cell) -> bool
+    ensures { result ≡ passes x ((K.sight look.now).values cell) }
+{
+    match look.number(cell) {
+        Some(number) => is_at_most(number, x),
+        None => passes(x, &look.value(cell)),
     }
 }
 
@@ -123,7 +134,7 @@ fn passed<K: Look>(across: bool, span: Span, x: Fixed, look: &K) -> u16
     let lines = lines_of(across, span);
     let mut line = 0;
     while line < lines {
-        if !passes(x, &look.value(line_cell(across, span, line, 0))) {
+        if !passes_at(x, look, line_cell(across, span, line, 0)) {
             return line;
         }
         line += 1;

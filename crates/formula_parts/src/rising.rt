@@ -10,7 +10,7 @@ ghost use Rattle.formula_parts.specs.Lookups.{by_number, firsts, passes};
 ghost use Rattle.formula_parts.specs.Outlook.{Sight};
 
 use crate::look::Look;
-use crate::lookups::{cell_at, passes};
+use crate::lookups::{cell_at, passes_at};
 use fixed_value::Fixed;
 use formula_tree::ValueRef;
 use grid_address::Span;
@@ -60,7 +60,7 @@ fn passed_rows<K: Look>(span: Span, x: Fixed, look: &K) -> u16
     let mut high = span.height();
     while low < high {
         let middle = low + (high - low) / 2;
-        if passes(x, &look.value(cell_at(span, middle, 0))) {
+        if passes_at(x, look, cell_at(span, middle, 0)) {
             low = middle + 1;
         } else {
             high = middle;

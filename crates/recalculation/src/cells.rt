@@ -29,9 +29,9 @@ pub fn number_of(store: &Store, cell: Cell) -> Option<Fixed>
     ensures some { IfSome result (λ n. value_at store.now cell ≡ value.Num n) }
     ensures none { IfNone result ((n : ℤ) → value_at store.now cell ≡ value.Num n → ⊥) }
 {
-    match value_of(store, cell) {
-        ValueRef::Num(number) => Some(number),
-        ValueRef::Blank | ValueRef::Str(_) | ValueRef::Err | ValueRef::Na => None,
+    match store.get(cell) {
+        Some(state) => state.number_value(),
+        None => None,
     }
 }
 

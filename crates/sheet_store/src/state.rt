@@ -1,5 +1,5 @@
 // What a cell holds.
-ghost use Rattle.std.specs.Prelude.{◌≡◌, true, IfOk};
+ghost use Rattle.std.specs.Prelude.{◌≡◌, ℤ, true, IfOk, IfSome, IfNone};
 ghost use Rattle.formula_tree.specs.Seen.{seen_content, seen_value};
 ghost use Rattle.formula_tree.specs.declared.value.Content.TheVariants as content;
 ghost use Rattle.formula_tree.specs.declared.value.Value.TheVariants as value;
@@ -222,6 +222,22 @@ impl CellState {
             Kept::In119(_, _, text) => ValueRef::Str(TextRef::In119(text)),
             Kept::In183(_, _, text) => ValueRef::Str(TextRef::In183(text)),
             Kept::In240(_, _, text) => ValueRef::Str(TextRef::In240(text)),
+        }
+    }
+
+    /// The number that the value is; none where it is something else.
+    #[inline(always)]
+    pub fn number_value(&self) -> Option<Fixed>
+        ensures some { IfSome result (λ n. self.now.value ≡ value.Num n) }
+        ensures none { IfNone result ((n : ℤ) → self.now.value ≡ value.Num n → ⊥) }
+    {
+        match &self.kept {
+            Kept::Number(_, number) => Some(*number),
+            Kept::Formula(_, computed) => match &computed.value {
+                Value::Num(number) => Some(*number),
+                Value::Blank | Value::Str(_) | Value::Err | Value::Na => None,
+            },
+            _ => None,
         }
     }
 

@@ -1,5 +1,4 @@
 use Rattle.std.proofs.Common.{sym, ap, ◌∙◌, arith}
-use Rattle.formula_tree.specs.Seen.{seen_value}
 use Rattle.formula_parts.specs.Lookups.{passes}
 use Rattle.formula_parts.proofs.Lines.{goes_on}
 use Rattle.formula_parts.proofs.lookups.passed.Goals as goal
@@ -9,6 +8,6 @@ loop-line-preserved g c =
     let values = (g.K.Look.sight c.args.look.now).values in (
       omega (arith, c.loop-line-test.true),
       goes_on (passes c.args.x) values c.args.across c.args.span c.lines_of-lines.result c.loop-line.line
-          (seen_value c.value.result) c.loop-line-test.true c.loop-line.invariant.1
-          (c.value.ensures ∙ ap values c.line_cell.ensures) (sym c.passes.ensures ∙ c.if-not-passes.false),
+          (values c.line_cell.result) c.loop-line-test.true c.loop-line.invariant.1
+          (ap values c.line_cell.ensures) (sym c.passes_at.ensures ∙ c.if-not-passes_at.false),
     )

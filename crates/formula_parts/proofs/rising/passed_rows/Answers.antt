@@ -13,17 +13,16 @@ loop-low-init g c = record {
   behind = λ h. absurd (omega (arith, h));
 }
 
-pub loop-low-preserved-then-passes : goal.loop-low-preserved-then-passes
-loop-low-preserved-then-passes g c =
+pub loop-low-preserved-then-passes_at : goal.loop-low-preserved-then-passes_at
+loop-low-preserved-then-passes_at g c =
     let values = (g.K.Look.sight c.args.look.now).values in
     let span = c.args.span in
     let now = c.loop-low in
     let middle = now.low + (now.high - now.low) / 2 in
     let there =
     ap values (sym (same_cell c.cell_at.result (span.first.row + middle) (span.first.col + 0) c.cell_at.ensures.row
-    c.cell_at.ensures.col))
-    ∙ sym c.value.ensures in
-    let pass = ap (passes c.args.x) there ∙ sym c.passes.ensures ∙ c.if-passes.true in
+    c.cell_at.ensures.col)) in
+    let pass = ap (passes c.args.x) there ∙ sym c.passes_at.ensures ∙ c.if-passes_at.true in
     record {
       within = omega (arith, c.loop-low-test.true);
       inside = now.invariant.inside;
@@ -41,13 +40,12 @@ loop-low-preserved g c =
     let middle = now.low + (now.high - now.low) / 2 in
     let there =
     ap values (sym (same_cell c.cell_at.result (span.first.row + middle) (span.first.col + 0) c.cell_at.ensures.row
-    c.cell_at.ensures.col))
-    ∙ sym c.value.ensures in
+    c.cell_at.ensures.col)) in
     record {
       within = omega arith;
       inside = omega (arith, now.invariant.within, now.invariant.inside);
       before = now.invariant.before;
-      behind = λ _. ap (passes c.args.x) there ∙ sym c.passes.ensures ∙ c.if-passes.false;
+      behind = λ _. ap (passes c.args.x) there ∙ sym c.passes_at.ensures ∙ c.if-passes_at.false;
     }
 
 pub returns : goal.returns
