@@ -35,6 +35,12 @@ def label(place, number):
     return LABEL(place, b"'order %07d is due\0" % number)
 
 
+def labels_of(length):
+    """Packs labels of so many bytes, the last of which are digits."""
+    packed = record(f"{length + 2}s", 0x0F)
+    return lambda place, number: packed(place, b"'%s\0" % (b"%d" % number).rjust(length, b"x")[-length:])
+
+
 def formula(place, number):
     """A formula with a number as its value."""
     return FORMULA(place, double(number), len(CODE), CODE)
@@ -43,11 +49,14 @@ def formula(place, number):
 # what the columns hold by turns
 KINDS = {"integers": [integer], "numbers": [decimal], "labels": [label], "formulas": [formula],
          "mixed": [integer, decimal, label, formula]}
+# labels of one byte, of so few that they have a block of their own, and of more
+LENGTHS = {f"labels of {length}": [labels_of(length)] for length in (1, 14, 40)}
 
 
 def make(path, kind, rows, columns):
     """Writes a file whose cells fill so many rows and columns, and tells its bytes."""
-    cells = [(column, KINDS[kind][column % len(KINDS[kind])]) for column in range(columns)]
+    held = (KINDS | LENGTHS)[kind]
+    cells = [(column, held[column % len(held)]) for column in range(columns)]
     with open(path, "wb") as file:
         file.write(FIRST)
         for row in range(rows):
