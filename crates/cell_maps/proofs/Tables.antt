@@ -6,7 +6,7 @@ use Rattle.std.proofs.lemmas.Bool.{cases_Bool, eq-eqb, eqb-true, false≢true, l
 use Rattle.std.proofs.lemmas.List.{get_or_past, length-set}
 use Rattle.grid_address.specs.Place.{InSheet, Place}
 use Rattle.cell_maps.specs.Numbers.{band_of, head_of, number_at, number_in, page_of, place_of, HasRoom, Numbers}
-use Rattle.cell_maps.specs.inner.Numbering.{used, AreParted}
+use Rattle.cell_maps.specs.inner.Numbering.{used, AreParted, AreWholeBands}
 
 zeros : (n j : ℕ) → ◌≡◌ {A = ℕ} (get_or (replicate n 0) j 0) 0
 zeros zero j = refl
@@ -43,28 +43,28 @@ used_set (suc n ∷ heads) (suc i) h k z p = ap suc (used_set heads i h (omega (
 -- there are few pages
 pub few_pages : (t : Numbers) → AreParted t → length t.numbers ≤ 2097152
 few_pages t ok = let w = used_within t.heads in let f = ok.full in
-    elim ok.short [ inl s ↦ omega (arith, w, f, s) | inr s ↦ omega (arith, w, f, s) ]
+    let l = ok.whole.1 in omega (arith, w, f, l)
 
 -- where the numbers of a page with room stand
 pub number_in_page : (numbers : List ℕ) (h p : ℕ) → 0 < h
-    → number_in numbers h p ≡ get_or numbers ((h - 1) * 1024 + p) 0
+    → number_in numbers h p ≡ get_or numbers ((h - 1) * 256 + p) 0
 number_in_page numbers zero p k = absurd (omega (arith, k))
-number_in_page numbers (suc h) p k = ap (λ n. get_or numbers (n * 1024 + p) 0) (omega arith)
+number_in_page numbers (suc h) p k = ap (λ n. get_or numbers (n * 256 + p) 0) (omega arith)
 
 in_same : (old new : List ℕ) (h p : ℕ) → ((j : ℕ) → get_or new j 0 ≡ get_or old j 0)
     → number_in new h p ≡ number_in old h p
 in_same old new zero p same = refl
-in_same old new (suc h) p same = same (h * 1024 + p)
+in_same old new (suc h) p same = same (h * 256 + p)
 
 -- heads that tell the same
 module _ (t : Numbers) (heads : List ℕ) (same : (j : ℕ) → get_or heads j 0 ≡ get_or t.heads j 0) where
-  parted_heads : used heads ≡ used t.heads → (length heads ≡ 0) ⊎ (length heads ≡ 2048) → AreParted t
+  parted_heads : used heads ≡ used t.heads → AreWholeBands heads → AreParted t
       → AreParted (record { heads = heads; numbers = t.numbers })
-  parted_heads count short ok = record {
+  parted_heads count whole ok = record {
     apart = λ i j e h. ok.apart i j (sym (same i) ∙ e ∙ same j) (subst (λ n. 0 < n) (same i) h);
-    room = λ i. subst (λ n. n * 1024 ≤ length t.numbers) (sym (same i)) (ok.room i);
-    full = ok.full ∙ ap (λ n. n * 1024) (sym count);
-    short = short;
+    room = λ i. subst (λ n. n * 256 ≤ length t.numbers) (sym (same i)) (ok.room i);
+    full = ok.full ∙ ap (λ n. n * 256) (sym count);
+    whole = whole;
   }
 
   same_heads : (d : Place) → number_at (record { heads = heads; numbers = t.numbers }) d ≡ number_at t d
@@ -72,8 +72,8 @@ module _ (t : Numbers) (heads : List ℕ) (same : (j : ℕ) → get_or heads j 0
 
 -- a page without room gets one behind the others
 module _ (t : Numbers) (ok : AreParted t) (i h : ℕ) (numbers : List ℕ) (inside : i < length t.heads)
-    (free : get_or t.heads i 0 ≡ 0) (count : h * 1024 ≡ length t.numbers + 1024)
-    (same : (j : ℕ) → get_or numbers j 0 ≡ get_or t.numbers j 0) (long : length numbers ≡ length t.numbers + 1024) where
+    (free : get_or t.heads i 0 ≡ 0) (count : h * 256 ≡ length t.numbers + 256)
+    (same : (j : ℕ) → get_or numbers j 0 ≡ get_or t.numbers j 0) (long : length numbers ≡ length t.numbers + 256) where
   abbrev heads : List ℕ
   heads = set t.heads i h
 
@@ -98,7 +98,7 @@ module _ (t : Numbers) (ok : AreParted t) (i h : ℕ) (numbers : List ℕ) (insi
       absurd (let l = low a in let z : get_or t.heads a 0 ≡ h = sym (other a p) ∙ e ∙ at_i b q in omega (arith, l, z))
   same_page a b e k (inr p) (inr q) = ok.apart a b (sym (other a p) ∙ e ∙ other b q) (subst (λ n. 0 < n) (other a p) k)
 
-  room_of : (j : ℕ) → (nat_eq j i ≡ true) ⊎ (nat_eq j i ≡ false) → get_or heads j 0 * 1024 ≤ length numbers
+  room_of : (j : ℕ) → (nat_eq j i ≡ true) ⊎ (nat_eq j i ≡ false) → get_or heads j 0 * 256 ≤ length numbers
   room_of j (inl p) = let z = at_i j p in let c = count in let l = long in omega (arith, z, c, l)
   room_of j (inr q) = let z = other j q in let r = ok.room j in let l = long in omega (arith, z, r, l)
 
@@ -108,7 +108,7 @@ module _ (t : Numbers) (ok : AreParted t) (i h : ℕ) (numbers : List ℕ) (insi
     room = λ j. room_of j (cases_Bool (nat_eq j i));
     full = (let c = count in let u = used_set t.heads i h inside free (omega (arith, c)) in let f = ok.full in
         let l = long in omega (arith, u, f, l));
-    short = subst (λ n. (n ≡ 0) ⊎ (n ≡ 2048)) (sym (length-set t.heads i h)) ok.short;
+    whole = subst (λ n. (n % 64 ≡ 0) × (n ≤ 128 * 64)) (sym (length-set t.heads i h)) ok.whole;
   }
 
   same_paged : (d : Place) → number_at (record { heads = set t.heads i h; numbers = numbers }) d ≡ number_at t d
@@ -121,25 +121,25 @@ module _ (t : Numbers) (ok : AreParted t) (i h : ℕ) (numbers : List ℕ) (insi
           let e = eqb-true (page_of d) i p in
           ap (λ n. number_in numbers n (place_of d)) (at_i (page_of d) p)
           ∙ number_in_page numbers h (place_of d) (omega (arith, c))
-          ∙ same ((h - 1) * 1024 + place_of d)
-          ∙ get_or_past t.numbers ((h - 1) * 1024 + place_of d) 0 (omega (arith, c))
+          ∙ same ((h - 1) * 256 + place_of d)
+          ∙ get_or_past t.numbers ((h - 1) * 256 + place_of d) 0 (omega (arith, c))
           ∙ sym (ap (λ n. number_in t.numbers n (place_of d)) (ap (λ x. get_or t.heads x 0) e ∙ free))
       with (inr q) = ap (λ n. number_in numbers n (place_of d)) (other (page_of d) q)
           ∙ in_same t.numbers numbers (head_of t d) (place_of d) same
 
 -- a table whose page without room gets one, after heads that tell the same
 module _ (t : Numbers) (ok : AreParted t) (heads numbers : List ℕ) (i pages : ℕ) (same : (j : ℕ)
-    → get_or heads j 0 ≡ get_or t.heads j 0) (alike : used heads ≡ used t.heads) (all : length heads ≡ 2048)
-    (inside : i < length heads) (free : get_or t.heads i 0 ≡ 0) (count : pages ≡ length t.numbers / 1024)
+    → get_or heads j 0 ≡ get_or t.heads j 0) (alike : used heads ≡ used t.heads) (whole : AreWholeBands heads)
+    (inside : i < length heads) (free : get_or t.heads i 0 ≡ 0) (count : pages ≡ length t.numbers / 256)
     (filled : (j : ℕ) → get_or numbers j 0 ≡ get_or t.numbers j 0)
-    (long : length numbers ≡ length t.numbers + 1024) where
+    (long : length numbers ≡ length t.numbers + 256) where
   abbrev between : Numbers
   between = record { heads = heads; numbers = t.numbers }
 
   parted : AreParted between
-  parted = parted_heads t heads same alike (inr all) ok
+  parted = parted_heads t heads same alike whole ok
 
-  exact : (pages + 1) * 1024 ≡ length t.numbers + 1024
+  exact : (pages + 1) * 256 ≡ length t.numbers + 256
   exact = let f = ok.full in let c = count in omega (arith, f, c)
 
   -- with room made for a page, each page with room has numbers of its own

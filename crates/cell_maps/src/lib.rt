@@ -9,4 +9,4 @@ mod table;
 pub use held::Held;
 pub use map::CellMap;
 pub use set::{CellSet, are_same};
-pub use table::PlaceTable;
+pub use table::{BAND_ROWS, PlaceTable};

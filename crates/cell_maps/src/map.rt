@@ -6,6 +6,7 @@ ghost use Rattle.std.specs.FinMap as map;
 ghost use Rattle.grid_address.specs.Place.{same_place, InSheet, Place};
 ghost use Rattle.cell_maps.specs.Numbers.{band_of, number_at};
 
+use crate::table::BAND_ROWS;
 use crate::{Held, PlaceTable};
 use grid_address::{COLUMNS, Cell};
 use std::alloc::{AllocError, Global};
@@ -91,6 +92,15 @@ impl<T> CellMap<T> {
     pub fn reserve(&mut self, more: usize) -> Result<(), AllocError>
         ensures { self.new ≡ self.old }
     {
+        self.table.reserve(more / usize::from(BAND_ROWS) + 1)?;
+        self.held.reserve(more)
+    }
+
+    /// Makes room for so many cells more, as far as there is memory, and for their numbers wherever they stand. The map
+    /// stays as it was.
+    pub fn reserve_anywhere(&mut self, more: usize) -> Result<(), AllocError>
+        ensures { self.new ≡ self.old }
+    {
         self.table.reserve(more)?;
         self.held.reserve(more)
     }
@@ -111,7 +121,8 @@ impl<T> CellMap<T> {
     }
 
     /// A column from the cell's on before which no cell of its row has an item, from its own column on. It is one that
-    /// may have an item, and else the end, or the cell's own column where that lies behind the end.
+    /// may have an item, and else one from the end on, up to 256, or the cell's own column where that lies behind the
+    /// end.
     pub fn next_column(&self, cell: Cell, end: u16) -> u16
         requires { end ≤ COLUMNS }
         ensures within { (cell.col ≤ result) × (result ≤ COLUMNS) }
@@ -121,17 +132,19 @@ impl<T> CellMap<T> {
         self.table.next_column(cell, end)
     }
 
-    /// A column from the cell's on, up to 256, before which no cell of its band of 256 rows has an item, from its own
-    /// column on.
-    pub fn next_page(&self, cell: Cell) -> u16
+    /// A column from the cell's on, up to 256, before which no cell of its band of 64 rows has an item, from its own
+    /// column on. It is one of a page that may have an item, and else one from the end on, or the cell's own column
+    /// where that lies behind the end.
+    pub fn next_page(&self, cell: Cell, end: u16) -> u16
+        requires { end ≤ COLUMNS }
         ensures within { (cell.col ≤ result) × (result ≤ COLUMNS) }
         ensures none { (c : Place) → InSheet c → band_of c ≡ band_of cell → cell.col ≤ c.col → c.col < result →
             map.get self.now c ≡ None }
     {
-        self.table.next_page(cell)
+        self.table.next_page(cell, end)
     }
 
-    /// A column, up to 256, from which on no cell of the cell's band of 256 rows has an item.
+    /// A column, up to 256, from which on no cell of the cell's band of 64 rows has an item.
     pub fn band_end(&self, cell: Cell) -> u16
         ensures within { result ≤ COLUMNS }
         ensures none { (c : Place) → InSheet c → band_of c ≡ band_of cell → result ≤ c.col → map.get self.now c ≡ None }

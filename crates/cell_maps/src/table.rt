@@ -2,14 +2,14 @@
 ghost use Rattle.std.specs.Prelude.{◌≡◌, ℕ, ◌<◌, ◌≤◌, ◌+◌, ◌-◌, ◌*◌, ◌/◌, ◌%◌, ◌^◌, ◌⊎◌, suc, cond, length, get_or, vec_capacity, vec_len, IfNone, IfSome, OnOk, OnErr};
 ghost use Rattle.grid_address.specs.Place.{same_place, InSheet, Place};
 ghost use Rattle.cell_maps.specs.Numbers.{band_of, head_of, number_at, page_of, place_of, HasRoom};
-ghost use Rattle.cell_maps.specs.inner.Numbering.{used};
+ghost use Rattle.cell_maps.specs.inner.Numbering.{used, AreWholeBands};
 
 use grid_address::{COLUMNS, Cell};
 use std::alloc::{AllocError, Global};
 use std::marker::Model;
 
-/// How many rows a page has.
-const PAGE_ROWS: u16 = 256;
+/// How many rows a page has, and with it each band of pages that lie side by side.
+pub const BAND_ROWS: u16 = 64;
 
 /// How many columns a page has.
 const PAGE_COLUMNS: u8 = 4;
@@ -18,19 +18,20 @@ const PAGE_COLUMNS: u8 = 4;
 const PAGES: usize = 64;
 
 /// How many pages the sheet has.
-const MOST_PAGES: usize = 2_048;
+const MOST_PAGES: usize = 8_192;
 
 /// How many places a page has.
-const PLACES: usize = 1_024;
+const PLACES: usize = 256;
 
-/// The heads of pages without room.
-const NO_HEADS: [u16; 2_048] = [0; 2_048];
+/// The heads of a band of pages without room.
+const NO_HEADS: [u16; PAGES] = [0; PAGES];
 
 /// The numbers of a page that has just got room.
 const NO_NUMBERS: [u32; PLACES] = [0; PLACES];
 
-/// A number for each place of the sheet; 0 stands for none. The places lie in pages of 256 rows and 4 columns. Once a
-/// number was set each page has a head of two bytes, and a page without a number takes no more room than that.
+/// A number for each place of the sheet; 0 stands for none. The places lie in pages of 64 rows and 4 columns. Each page
+/// has a head of two bytes, as far down as the last band in which a number was set, and a page without a number takes
+/// no more room than that.
 #[derive(Drop)]
 pub struct PlaceTable {
     heads: Vec<u16>,
@@ -53,37 +54,51 @@ impl Model for PlaceTable {
 fn page_of(cell: Cell) -> usize
     ensures { result ≡ page_of cell }
 {
-    usize::from(cell.row / PAGE_ROWS) * PAGES + usize::from(cell.col / PAGE_COLUMNS)
+    usize::from(cell.row / BAND_ROWS) * PAGES + usize::from(cell.col / PAGE_COLUMNS)
 }
 
 // The place of a cell in its page.
 #[inline(always)]
 fn place_of(cell: Cell) -> usize
     ensures place { result ≡ place_of cell }
-    ensures below { result < 1024 }
+    ensures below { result < 256 }
 {
-    usize::from(cell.row % PAGE_ROWS) * 4 + usize::from(cell.col % PAGE_COLUMNS)
+    usize::from(cell.row % BAND_ROWS) * 4 + usize::from(cell.col % PAGE_COLUMNS)
+}
+
+// The column behind the page of a column.
+#[inline(always)]
+fn page_end(col: u16) -> u16
+    requires { col < 256 }
+    ensures { result ≡ col / 4 * 4 + 4 }
+{
+    col / 4 * 4 + 4
 }
 
 // Where the number of a cell stands among those of all pages, where its page is the given one of them.
 #[inline(always)]
 fn index_in(head: u16, cell: Cell) -> usize
     requires { 0 < head }
-    ensures index { result ≡ (head - 1) * 1024 + place_of cell }
-    ensures below { result < head * 1024 }
+    ensures index { result ≡ (head - 1) * 256 + place_of cell }
+    ensures below { result < head * 256 }
 {
     usize::from(head - 1) * PLACES + place_of(cell)
 }
 
-// Adds the heads of all pages, where there are none.
-fn add_heads(heads: &mut Vec<u16>) -> Result<(), AllocError>
-    requires { (length heads.old.items ≡ 0) ⊎ (length heads.old.items ≡ 2048) }
+// Adds the heads of further bands, as far as a page has none. At first it makes room for those of the whole sheet, so
+// that none is copied again; what isn't used of that room stays untouched.
+fn add_heads(heads: &mut Vec<u16>, page: usize) -> Result<(), AllocError>
+    requires inside { page < MOST_PAGES }
+    requires whole { AreWholeBands heads.old.items }
+    ensures whole { AreWholeBands heads.new.items }
     ensures same { (j : ℕ) → get_or heads.new.items j 0 ≡ get_or heads.old.items j 0 }
     ensures used { used heads.new.items ≡ used heads.old.items }
-    ensures long { OnOk result (length heads.new.items ≡ 2048) }
-    ensures err { OnErr result (heads.new.items ≡ heads.old.items) }
+    ensures long { OnOk result (page < length heads.new.items) }
 {
     if heads.is_empty() {
+        heads.reserve(MOST_PAGES)?;
+    }
+    while heads.len() <= page {
         heads.extend_from_slice(&NO_HEADS)?;
     }
     Ok(())
@@ -92,7 +107,7 @@ fn add_heads(heads: &mut Vec<u16>) -> Result<(), AllocError>
 // Adds a page of zeros behind the others.
 fn add_page(numbers: &mut Vec<u32>) -> Result<(), AllocError>
     ensures same { (j : ℕ) → get_or numbers.new.items j 0 ≡ get_or numbers.old.items j 0 }
-    ensures long { OnOk result (length numbers.new.items ≡ length numbers.old.items + 1024) }
+    ensures long { OnOk result (length numbers.new.items ≡ length numbers.old.items + 256) }
     ensures err { OnErr result (numbers.new.items ≡ numbers.old.items) }
 {
     numbers.extend_from_slice(&NO_NUMBERS)?;
@@ -110,12 +125,11 @@ impl PlaceTable {
         }
     }
 
-    /// Makes room for the numbers of so many cells of one column, as far as there is memory. No number changes.
-    pub(crate) fn reserve(&mut self, more: usize) -> Result<(), AllocError>
+    /// Makes room for the numbers of so many pages more, as far as there is memory. No number changes.
+    pub(crate) fn reserve(&mut self, pages: usize) -> Result<(), AllocError>
         ensures { self.new ≡ self.old }
     {
-        let pages = (more / usize::from(PAGE_ROWS) + 1).min(MOST_PAGES);
-        self.numbers.reserve(pages * PLACES)
+        self.numbers.reserve(pages.min(MOST_PAGES) * PLACES)
     }
 
     // Which one of the pages with room a cell's page is, 0 where it has none.
@@ -140,8 +154,8 @@ impl PlaceTable {
         }
     }
 
-    /// The next column from the cell's on, before the end, in which its row has a number. Where none is left, it is the
-    /// end, or the cell's own column where that lies behind the end.
+    /// The next column from the cell's on, before the end, in which its row has a number. Where none is left, it is one
+    /// from the end on, up to 256, or the cell's own column where that lies behind the end.
     pub fn next_column(&self, cell: Cell, end: u16) -> u16
         requires { end ≤ COLUMNS }
         ensures within { (cell.col ≤ result) × (result ≤ COLUMNS) }
@@ -154,23 +168,28 @@ impl PlaceTable {
                 row: cell.row,
                 col: col as u8,
             };
-            if self.number_at(place) != 0 {
+            if self.head_of(place) == 0 {
+                col = page_end(col);
+            } else if self.number_at(place) == 0 {
+                col += 1;
+            } else {
                 return col;
             }
-            col += 1;
         }
         col
     }
 
-    /// A column from the cell's on, up to 256, before which no place of the cell's band of 256 rows has a number, from
-    /// the cell's own column on. It is the cell's own where its page has room, or the first of a page that has, or 256.
-    pub fn next_page(&self, cell: Cell) -> u16
+    /// A column from the cell's on, up to 256, before which no place of the cell's band of 64 rows has a number, from
+    /// the cell's own column on. It is the cell's own where its page has room, or the first of a page that has. Where
+    /// there is none before the end, it is one from the end on, or the cell's own where that lies behind the end.
+    pub fn next_page(&self, cell: Cell, end: u16) -> u16
+        requires { end ≤ COLUMNS }
         ensures within { (cell.col ≤ result) × (result ≤ COLUMNS) }
         ensures none { (d : Place) → InSheet d → band_of d ≡ band_of cell → cell.col ≤ d.col → d.col < result →
             number_at self.now d ≡ 0 }
     {
         let mut col = u16::from(cell.col);
-        while col < COLUMNS {
+        while col < end {
             let here = Cell {
                 row: cell.row,
                 col: col as u8,
@@ -178,12 +197,12 @@ impl PlaceTable {
             if self.head_of(here) != 0 {
                 return col;
             }
-            col = col / 4 * 4 + 4;
+            col = page_end(col);
         }
         col
     }
 
-    /// A column, up to 256, from which on no place of the cell's band of 256 rows has a number.
+    /// A column, up to 256, from which on no place of the cell's band of 64 rows has a number.
     pub fn band_end(&self, cell: Cell) -> u16
         ensures within { result ≤ COLUMNS }
         ensures none { (d : Place) → InSheet d → band_of d ≡ band_of cell → result ≤ d.col → number_at self.now d ≡ 0 }
@@ -212,7 +231,7 @@ impl PlaceTable {
         cell.is_on_sheet();
         let page = page_of(cell);
         let pages = self.numbers.len() / PLACES;
-        add_heads(&mut self.heads)?;
+        add_heads(&mut self.heads, page)?;
         add_page(&mut self.numbers)?;
         self.heads[page] = pages as u16 + 1;
         Ok(())

@@ -1,5 +1,5 @@
 -- How the numbers of cells are kept.
-use Rattle.std.specs.Prelude.{ℕ, zero, suc, ◌≡◌, ◌-◌, ◌*◌, ◌<◌, ◌≤◌, ◌⊎◌, List, [], ◌∷◌, length, map, get_or, Some, slice_get}
+use Rattle.std.specs.Prelude.{ℕ, zero, suc, ◌≡◌, ◌-◌, ◌*◌, ◌%◌, ◌<◌, ◌≤◌, ◌⊎◌, List, [], ◌∷◌, length, map, get_or, Some, slice_get}
 use Rattle.cell_maps.specs.Numbers.{Numbers, number_at}
 use Rattle.grid_address.specs.Place.{InSheet, Place}
 
@@ -13,12 +13,16 @@ used [] = 0
 used (zero ∷ heads) = used heads
 used (suc k ∷ heads) = suc (used heads)
 
--- each page with room has 1,024 numbers of its own, and there are no others; there are the heads of all pages or none
+-- the heads are those of all pages of the first bands, of which the sheet has 128, each of 64 pages
+abbrev pub AreWholeBands : List ℕ → Type 0
+AreWholeBands heads = (length heads % 64 ≡ 0) × (length heads ≤ 128 * 64)
+
+-- each page with room has 256 numbers of its own, and there are no others
 pub record AreParted (t : Numbers) : Type 0 where
   pub apart : (i j : ℕ) → get_or t.heads i 0 ≡ get_or t.heads j 0 → 0 < get_or t.heads i 0 → i ≡ j
-  pub room : (i : ℕ) → get_or t.heads i 0 * 1024 ≤ length t.numbers
-  pub full : length t.numbers ≡ used t.heads * 1024
-  pub short : (length t.heads ≡ 0) ⊎ (length t.heads ≡ 2048)
+  pub room : (i : ℕ) → get_or t.heads i 0 * 256 ≤ length t.numbers
+  pub full : length t.numbers ≡ used t.heads * 256
+  pub whole : AreWholeBands t.heads
 
 -- the cells that have numbers are these, the first with 1
 pub record AreNumbered (bands : Numbers) (cells : List Place) : Type 0 where

@@ -15,7 +15,7 @@ invariant_of-self-2 c =
     let free : get_or t.heads c.page_of-page.result 0 ≡ 0 = ap (λ i. get_or t.heads i 0) c.page_of-page.ensures
     ∙ ap (λ (u : Numbers). head_of u c.args.cell) c.self.view_is ∙ c.requires in
     parted_grown t c.self.invariant c.add_heads.new.heads.items c.add_page.new.numbers.items c.page_of-page.result
-    (c.len-pages.result / 1024) c.add_heads.ensures.same c.add_heads.ensures.used c.in_ok-add_heads.ensures.long
+    (c.len-pages.result / 256) c.add_heads.ensures.same c.add_heads.ensures.used c.add_heads.ensures.whole
     (let e = c.page_of-page.ensures in let l = c.in_ok-add_heads.ensures.long in let on = c.is_on_sheet.ensures in
     omega (arith, e, l, on.0, on.1)) free (let e = c.len-pages.ensures in omega (arith, e)) c.add_page.ensures.same
     c.in_ok-add_page.ensures.long
@@ -26,7 +26,7 @@ returns-clause-same c = λ d.
     let free : get_or t.heads c.page_of-page.result 0 ≡ 0 = ap (λ i. get_or t.heads i 0) c.page_of-page.ensures
     ∙ ap (λ (u : Numbers). head_of u c.args.cell) c.self.view_is ∙ c.requires in
     same_grown t c.self.invariant c.add_heads.new.heads.items c.add_page.new.numbers.items c.page_of-page.result
-    (c.len-pages.result / 1024) c.add_heads.ensures.same c.add_heads.ensures.used c.in_ok-add_heads.ensures.long
+    (c.len-pages.result / 256) c.add_heads.ensures.same c.add_heads.ensures.used c.add_heads.ensures.whole
     (let e = c.page_of-page.ensures in let l = c.in_ok-add_heads.ensures.long in let on = c.is_on_sheet.ensures in
     omega (arith, e, l, on.0, on.1)) free (let e = c.len-pages.ensures in omega (arith, e)) c.add_page.ensures.same
     c.in_ok-add_page.ensures.long d
