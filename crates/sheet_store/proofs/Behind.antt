@@ -7,7 +7,7 @@ use Rattle.std.proofs.Common.{sym, ◌∙◌, ap, rules}
 use Rattle.grid_address.proofs.Maps.{in_order}
 use Rattle.grid_address.proofs.Places.{cells_total}
 use Rattle.grid_address.specs.Place.{place_cmp, InSheet, Place}
-use Rattle.sheet_store.specs.inner.RowOrder.{entries_behind, NextHeld, NoneHeldBehind}
+use Rattle.sheet_store.specs.inner.RowOrder.{entries_behind, EndsAt, IsUpTo, NextHeld, NoneHeldBehind}
 use Rattle.sheet_store.specs.Grid.{AreHeld, Cells}
 use Rattle.sheet_store.specs.inner.Scan.{entries_from, left_from}
 use Rattle.sheet_store.specs.State.{CellState}
@@ -31,6 +31,19 @@ all_left : (es : List (Place × CellState)) → filter (λ e. true) es ≡ es
 all_left [] = refl
 all_left (e ∷ es) = ap (λ l. e ∷ l) (all_left es)
 
+-- the next place up to where all end is the next one that may have a state
+pub next_up_to : (m : Cells) (last c : Place) (next : Option Place) → EndsAt m last
+    → IfSome next (λ d. (p : Place) → IsUpTo last p → is_lt (place_cmp c p) ≡ is_le (place_cmp d p))
+    → IfSome next (λ d. NextHeld m c d)
+next_up_to m last c None ends h = h
+next_up_to m last c (Some d) ends h = λ p s i g. h p (ends p s g)
+
+-- where there is none, no cell behind has a state
+pub none_up_to : (m : Cells) (last c : Place) (next : Option Place) → EndsAt m last
+    → IfNone next ((p : Place) → IsUpTo last p → is_lt (place_cmp c p) ≡ false) → IfNone next (NoneHeldBehind m c)
+none_up_to m last c None ends h = λ p s i g. h p (ends p s g)
+none_up_to m last c (Some d) ends h = h
+
 module _ (m : Cells) (held : AreHeld m) where
   agrees_inside : (p q : Place → Bool) → ((c : Place) → InSheet c → p c ≡ q c)
       → filter (λ e. p e.0) (entries m) ≡ filter (λ e. q e.0) (entries m)
@@ -47,13 +60,13 @@ module _ (m : Cells) (held : AreHeld m) where
       filter_agrees (λ p. is_lt (place_cmp c p)) (λ p. is_le (place_cmp d p)) (entries m)
       (λ p s k. some p s (held p s (get-entries m p ∙ k)).inside (get-entries m p ∙ k))
 
-  -- what stands behind a place is what is left from the next one on
-  pub left_next : (c : Place) (next : Option Place)
-      → IfSome next (λ d. (p : Place) → InSheet p → is_lt (place_cmp c p) ≡ is_le (place_cmp d p))
-      → IfNone next ((p : Place) → InSheet p → is_lt (place_cmp c p) ≡ false)
+  -- what stands behind a place is what is left from the next one on, up to where all end
+  pub left_next : (last c : Place) (next : Option Place) → EndsAt m last
+      → IfSome next (λ d. (p : Place) → IsUpTo last p → is_lt (place_cmp c p) ≡ is_le (place_cmp d p))
+      → IfNone next ((p : Place) → IsUpTo last p → is_lt (place_cmp c p) ≡ false)
       → entries_behind c (entries m) ≡ left_from next (entries m)
-  left_next c None some none = agrees_inside (λ p. is_lt (place_cmp c p)) (λ p. false) none ∙ none_left (entries m)
-  left_next c (Some d) some none = agrees_inside (λ p. is_lt (place_cmp c p)) (λ p. is_le (place_cmp d p)) some
+  left_next last c next ends some none =
+      left_past c next (next_up_to m last c next ends some) (none_up_to m last c next ends none)
 
   first_le : (p : Place) → is_le (place_cmp (record { row = 0; col = 0 }) p) ≡ true
   first_le p = search rules

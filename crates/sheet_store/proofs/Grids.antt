@@ -2,9 +2,9 @@
 use Rattle.std.specs.Prelude.{ℕ, ◌≡◌, ◌≤◌, ◌&&◌, cond, max, refl, List, [], ◌∷◌, None, Some}
 use Rattle.std.specs.FinMap.{entries, find, from_entries, get, get-entries, get-from_entries}
 use Rattle.std.specs.Ordering.{eq_by_cmp}
-use Rattle.std.proofs.Common.{sym, ◌∙◌, ap, arith, inl, inr}
+use Rattle.std.proofs.Common.{sym, ◌∙◌, ap, subst, arith, inl, inr}
 use Rattle.std.proofs.lemmas.Bool.{cases_Bool}
-use Rattle.std.proofs.lemmas.Option.{none-some}
+use Rattle.std.proofs.lemmas.Option.{none-some, same_Some}
 use Rattle.grid_address.proofs.Places.{cells_total, in_whole, place_tied, same_place_itself}
 use Rattle.grid_address.specs.Place.{place_cmp, whole, InSheet, Place}
 use Rattle.cell_maps.specs.Filled.{filled}
@@ -12,6 +12,7 @@ use Rattle.cell_maps.specs.declared.held.Held.{Held}
 use Rattle.sheet_store.proofs.Held.{tied}
 use Rattle.sheet_store.specs.Grid.{formulas_among, holds_formula, is_formula, last_among, picked, AreHeld, Cells}
 use Rattle.sheet_store.specs.State.{CellState}
+use Rattle.sheet_store.specs.inner.RowOrder.{EndsAt, IsUpTo}
 
 -- the first entry is found at its place
 pub first_found : (e : Place × CellState) (es : List (Place × CellState)) → find place_cmp e.0 (e ∷ es) ≡ Some e.1
@@ -67,6 +68,17 @@ module _ (f : Place → ℕ) where
     | inr g ↦ no_less (max n (f e.0)) es p s (sym (ap (λ b. cond b (Some e.1) (find place_cmp p es)) g) ∙ h)
   ]
 
+  -- nor is it less with the first cell's number to begin with
+  no_less_of_all : (e : Place × CellState) (es : List (Place × CellState)) (p : Place) (s : CellState)
+      → find place_cmp p (e ∷ es) ≡ Some s → f p ≤ most f (f e.0) es
+  no_less_of_all e es p s h = elim (cases_Bool (eq_by_cmp place_cmp p e.0)) [
+    | inl t ↦
+        let k = at_least (f e.0) es in
+        let is : f p ≡ f e.0 = ap f (tied p e.0 t) in
+        omega (arith, k, is)
+    | inr b ↦ no_less (f e.0) es p s (sym (ap (λ b. cond b (Some e.1) (find place_cmp p es)) b) ∙ h)
+  ]
+
   -- it is the first number, or a cell's
   reached : (n : ℕ) (es : List (Place × CellState)) (bound : ℕ) → n ≤ bound
       → ((p : Place) (s : CellState) → find place_cmp p es ≡ Some s → f p ≤ bound) → most f n es ≤ bound
@@ -84,13 +96,26 @@ module _ (f : Place → ℕ) where
       (λ p s h. (let t = found_later e es p s h in member p t.0 t.1))
     where
       member : (p : Place) (s : CellState) → find place_cmp p (e ∷ es) ≡ Some s → f p ≤ most f (f g.0) fs
-      member p s h = elim (cases_Bool (eq_by_cmp place_cmp p g.0)) [
-        | inl t ↦
-            let k = at_least (f g.0) fs in
-            let is : f p ≡ f g.0 = ap f (tied p g.0 t) in
-            omega (arith, k, is)
-        | inr b ↦ no_less (f g.0) fs p s (sym (ap (λ b. cond b (Some g.1) (find place_cmp p fs)) b) ∙ sym (same p) ∙ h)
-      ]
+      member p s h = no_less_of_all g fs p s (sym (same p) ∙ h)
+
+-- no cell lies behind the last row or the last column
+up_to_last : (es : List (Place × CellState)) (last : Place) → last_among None es ≡ Some last → (p : Place)
+    (s : CellState) → find place_cmp p es ≡ Some s → IsUpTo last p
+up_to_last [] last h p s k = absurd cc
+up_to_last (e ∷ es) last h p s k =
+    let is = same_Some _ last (sym (last_is e.0 es) ∙ h) in (
+      subst (λ (q : Place). p.row ≤ q.row) is (no_less_of_all (λ p. p.row) e es p s k),
+      subst (λ (q : Place). p.col ≤ q.col) is (no_less_of_all (λ p. p.col) e es p s k),
+    )
+
+-- so a map ends there
+pub ends_at_last : (m : Cells) (last : Place) → last_among None (entries m) ≡ Some last → EndsAt m last
+ends_at_last m last h p s k = up_to_last (entries m) last h p s (sym (get-entries m p) ∙ k)
+
+-- nor do cells lie behind the sheet's end
+pub ends_with_sheet : (m : Cells) → AreHeld m → EndsAt m (record { row = 8191; col = 255 })
+ends_with_sheet m held p s h =
+    let inside = (held p s h).inside in (omega (arith, inside.0), omega (arith, inside.1))
 
 -- it is the same in any order
 last_same : (es fs : List (Place × CellState)) → ((p : Place) → find place_cmp p es ≡ find place_cmp p fs)

@@ -6,4 +6,3 @@ pub mod Held
 pub mod HeldOrder
 pub mod RowOrder
 pub mod Scans
-pub mod Unused

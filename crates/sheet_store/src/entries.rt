@@ -1,15 +1,15 @@
 // The cells of a store, one after another.
-ghost use Rattle.std.specs.Prelude.{◌≡◌, ◌∷◌, ◌<◌, ◌≤◌, [], false, None, IfSome, IfNone};
+ghost use Rattle.std.specs.Prelude.{◌≡◌, ◌∷◌, ◌<◌, ◌≤◌, [], false, None, Some, IfSome, IfNone};
 ghost use Rattle.std.specs.Ordering.{is_le, is_lt};
 ghost use Rattle.std.specs.FinMap as map;
 ghost use Rattle.cell_maps.specs.Numbers.{band_of};
 ghost use Rattle.grid_address.specs.Place.{place_cmp, InSheet, Place};
-ghost use Rattle.sheet_store.specs.inner.RowOrder.{entries_behind, IsEdge, NextHeld, NoneHeldBehind};
+ghost use Rattle.sheet_store.specs.inner.RowOrder.{entries_behind, EndsAt, IsEdge, IsUpTo, NextHeld, NoneHeldBehind};
 ghost use Rattle.sheet_store.specs.inner.Scan.{left_from, number_of};
 
 use crate::held_order::{held_from, is_in_order};
 use crate::{CellState, Store};
-use cell_maps::Held;
+use cell_maps::{BAND_ROWS, Held};
 use grid_address::{COLUMNS, Cell, LAST_COLUMN, LAST_ROW};
 use std::marker::Model;
 
@@ -20,13 +20,23 @@ pub(crate) struct Edge {
     col: u16,
 }
 
+impl Edge {
+    // The edge of a band that isn't in the sheet.
+    const NONE: Edge = Edge {
+        band: u16::MAX,
+        col: COLUMNS,
+    };
+}
+
 /// The cells of a store that are still to come, with their states, in row order. Where they are held in that order, as
-/// those of a file that was read are, they are gone over as they are held. Else they are looked for place by place, and
-/// the edge of the last band is kept, so that each of its rows is left there.
+/// those of a file that was read row by row are, they are gone over as they are held. Else they are looked for place by
+/// place, up to the last row and the last column that hold one, and the edge of the last band is kept, so that each of
+/// its rows is left there.
 #[derive(Drop)]
 pub struct Entries<'a> {
     store: &'a Store,
     from: Option<Cell>,
+    last: Cell,
     edge: Edge,
     is_run: bool,
     held: &'a [Held<CellState>],
@@ -47,12 +57,12 @@ impl<'a> Model for Entries<'a> {
 
     ghost coded = { Prim.hlevel (codes, formula.the_row.coded) };
 
-    ghost use Rattle.sheet_store.specs.inner.RowOrder.{IsEdge};
+    ghost use Rattle.sheet_store.specs.inner.RowOrder.{EndsAt, IsEdge};
 
     ghost view = { λ e. cond e.is_run (filled (drop e.at e.held.now))
         (left_from e.from (map.entries e.store.now.cells)) };
 
-    ghost invariant = { λ e. IsEdge e.store.now.cells e.edge };
+    ghost invariant = { λ e. IsEdge e.store.now.cells e.edge × EndsAt e.store.now.cells e.last };
 }
 
 impl<'a> Entries<'a> {
@@ -72,13 +82,37 @@ impl<'a> Entries<'a> {
             };
         }
         self.store.are_held();
-        match first_from(self.store, self.from, &mut self.edge) {
+        let Some(place) = self.from else {
+            return None;
+        };
+        if let Some(state) = self.store.get(place) {
+            self.from = place_after(place, self.last);
+            return Some((place, state));
+        }
+        match first_from(self.store, place, self.last, &mut self.edge) {
             Some(entry) => {
-                self.from = place_after(entry.0);
+                self.from = place_after(entry.0, self.last);
                 Some(entry)
             }
             None => None,
         }
+    }
+}
+
+// A row and a column behind which no cell of a store has a state: the last ones that hold one, where its cells are
+// looked for place by place, and else those of the sheet.
+fn end_of(store: &Store, is_run: bool) -> Cell
+    ensures { EndsAt store.now.cells result }
+{
+    store.are_held();
+    if !is_run {
+        if let Some(last) = store.last_used() {
+            return last;
+        }
+    }
+    Cell {
+        row: LAST_ROW,
+        col: LAST_COLUMN,
     }
 }
 
@@ -90,76 +124,81 @@ impl Store {
         self.are_held();
         let first = Cell { row: 0, col: 0 };
         let held = self.held();
+        let is_run = is_in_order(held);
         Entries {
             store: self,
             from: Some(first),
-            edge: edge_of(self, first),
-            is_run: is_in_order(held),
+            last: end_of(self, is_run),
+            edge: Edge::NONE,
+            is_run,
             held,
             at: 0,
         }
     }
 }
 
-// The first place of a row, if there is such a row.
-fn row_start(row: u16) -> Option<Cell>
+// The first place of a row up to the last one.
+fn row_start(row: u16, last: Cell) -> Option<Cell>
     ensures some { IfSome result (λ c. (c ≡ record { row = row; col = 0 }) × InSheet c) }
-    ensures none { IfNone result (InSheet (record { row = row; col = 0 }) → ⊥) }
+    ensures none { IfNone result (last.row < row) }
 {
-    if row <= LAST_ROW {
+    last.is_on_sheet();
+    if row <= last.row {
         Some(Cell { row, col: 0 })
     } else {
         None
     }
 }
 
-// The place behind another, in row order.
-fn place_after(place: Cell) -> Option<Cell>
-    ensures some { IfSome result (λ c. (p : Place) → InSheet p → is_lt (place_cmp place p) ≡ is_le (place_cmp c p)) }
+// The place behind another, in row order, up to a last row and a last column.
+#[inline(always)]
+fn place_after(place: Cell, last: Cell) -> Option<Cell>
+    ensures some { IfSome result (λ c.
+        (p : Place) → IsUpTo last p → is_lt (place_cmp place p) ≡ is_le (place_cmp c p)) }
     ensures behind { IfSome result (λ c. number_of place < number_of c) }
-    ensures none { IfNone result ((p : Place) → InSheet p → is_lt (place_cmp place p) ≡ false) }
+    ensures none { IfNone result ((p : Place) → IsUpTo last p → is_lt (place_cmp place p) ≡ false) }
 {
-    if place.col < LAST_COLUMN {
+    if place.col < last.col {
         return Some(Cell {
             row: place.row,
             col: place.col + 1,
         });
     }
-    row_start(place.row + 1)
+    row_start(place.row + 1, last)
 }
 
-/// The rows of a band, of which a store tells at once in which columns none of its cells has a state.
-pub const BAND: u16 = 256;
-
-// The edge of a place's band.
-fn edge_of(store: &Store, place: Cell) -> Edge
+// The edge of a place's band, up to the column behind the last one that holds a cell.
+fn edge_of(store: &Store, place: Cell, last: Cell) -> Edge
+    requires { EndsAt store.now.cells last }
     ensures band { result.band ≡ band_of place }
     ensures edge { IsEdge store.now.cells result }
 {
     Edge {
-        band: place.row / BAND,
-        col: store.band_end(place),
+        band: place.row / BAND_ROWS,
+        col: store.band_end(place).min(u16::from(last.col) + 1),
     }
 }
 
 // The edge of a place's band, which is the one that is known where that is of the same band.
-fn edge_at(store: &Store, place: Cell, known: Edge) -> Edge
-    requires { IsEdge store.now.cells known }
+fn edge_at(store: &Store, place: Cell, last: Cell, known: Edge) -> Edge
+    requires edge { IsEdge store.now.cells known }
+    requires ends { EndsAt store.now.cells last }
     ensures band { result.band ≡ band_of place }
     ensures edge { IsEdge store.now.cells result }
 {
-    if known.band == place.row / BAND {
+    if known.band == place.row / BAND_ROWS {
         known
     } else {
-        edge_of(store, place)
+        edge_of(store, place, last)
     }
 }
 
 // A place behind one without a state, and no cell with a state lies between them: the next place, or the first that may
 // have one in the row, or in the next row, or in the next band where the store holds no cell in this one. The edge is
 // that of the place's band.
-fn place_past(store: &Store, place: Cell, edge: Edge) -> Option<Cell>
+fn place_past(store: &Store, place: Cell, last: Cell, edge: Edge) -> Option<Cell>
     requires absent { map.get store.now.cells place ≡ None }
+    requires ends { EndsAt store.now.cells last }
     requires band { edge.band ≡ band_of place }
     requires edge { IsEdge store.now.cells edge }
     ensures some { IfSome result (λ c. NextHeld store.now.cells place c) }
@@ -167,14 +206,14 @@ fn place_past(store: &Store, place: Cell, edge: Edge) -> Option<Cell>
     ensures none { IfNone result (NoneHeldBehind store.now.cells place) }
 {
     if edge.col == 0 {
-        return row_start(place.row / BAND * BAND + BAND);
+        return row_start(place.row / BAND_ROWS * BAND_ROWS + BAND_ROWS, last);
     }
     if edge.col <= u16::from(place.col) {
-        return row_start(place.row + 1);
+        return row_start(place.row + 1, last);
     }
     let col = store.next_column(place, edge.col);
     if col <= u16::from(place.col) {
-        return place_after(place);
+        return place_after(place, last);
     }
     if col < edge.col {
         return Some(Cell {
@@ -182,33 +221,35 @@ fn place_past(store: &Store, place: Cell, edge: Edge) -> Option<Cell>
             col: col as u8,
         });
     }
-    row_start(place.row + 1)
+    row_start(place.row + 1, last)
 }
 
 // The first cell with a state from a place on.
 #[inline(never)]
 fn first_from<'a>(
     store: &'a Store,
-    from: Option<Cell>,
+    from: Cell,
+    last: Cell,
     edge: &mut Edge,
 ) -> Option<(Cell, &'a CellState)>
-    requires { IsEdge store.now.cells edge.old }
+    requires edge { IsEdge store.now.cells edge.old }
+    requires ends { EndsAt store.now.cells last }
     ensures edge { IsEdge store.now.cells edge.new }
     ensures some { IfSome result (λ entry.
-        left_from from (map.entries store.now.cells) ≡
+        left_from (Some from) (map.entries store.now.cells) ≡
         (entry.0, entry.1.now) ∷ entries_behind entry.0 (map.entries store.now.cells)) }
-    ensures none { IfNone result (left_from from (map.entries store.now.cells) ≡ []) }
+    ensures none { IfNone result (left_from (Some from) (map.entries store.now.cells) ≡ []) }
 {
     store.are_held();
-    let mut next = from;
+    let mut next = Some(from);
     while let Some(place) = next {
         place.is_on_sheet();
         match store.get(place) {
             Some(state) => return Some((place, state)),
             None => {}
         }
-        *edge = edge_at(store, place, *edge);
-        next = place_past(store, place, *edge);
+        *edge = edge_at(store, place, last, *edge);
+        next = place_past(store, place, last, *edge);
     }
     None
 }

@@ -14,10 +14,10 @@ ghost use Rattle.sheet_store.specs.inner.Contents.{HasContent, IsBlankAt};
 ghost use Rattle.sheet_store.specs.inner.Keeping.{AlwaysHolds, GoesOn, GoesOnWith};
 
 use crate::CellState;
-use crate::entries::BAND;
+use crate::held_order::held_from;
 use crate::own_width::{MOST_WIDTH, OwnWidth};
 use crate::scan::scan;
-use cell_maps::{CellMap, Held};
+use cell_maps::{BAND_ROWS, CellMap, Held};
 use fixed_value::Fixed;
 use formula_parts::Kept;
 use formula_tree::{Value, ValueRef};
@@ -70,6 +70,15 @@ impl Store {
         }
     }
 
+    /// Makes room for the states of so many cells more, wherever they stand, as far as there is memory. The store stays
+    /// as it was.
+    pub fn reserve(&mut self, cells: usize) -> Result<(), Memory>
+        ensures { self.new ≡ self.old }
+    {
+        self.cells.reserve_anywhere(cells)?;
+        Ok(())
+    }
+
     /// The memory that the store is in.
     pub fn alloc(&self) -> Global {
         self.alloc
@@ -92,7 +101,8 @@ impl Store {
     }
 
     // A column from the cell's on before which no cell of its row has a state, from its own column on. It is one that
-    // may have a state, and else the end, or the cell's own column where that lies behind the end.
+    // may have a state, and else one from the end on, up to 256, or the cell's own column where that lies behind the
+    // end.
     pub(crate) fn next_column(&self, cell: Cell, end: u16) -> u16
         requires { end ≤ 256 }
         ensures within { (cell.col ≤ result) × (result ≤ 256) }
@@ -102,17 +112,19 @@ impl Store {
         self.cells.next_column(cell, end)
     }
 
-    // A column from the cell's on, up to 256, before which no cell of its band of 256 rows has a state, from its own
-    // column on.
-    fn next_page(&self, cell: Cell) -> u16
+    // A column from the cell's on, up to 256, before which no cell of its band of 64 rows has a state, from its own
+    // column on. It is one of a page that may have one, and else one from the end on, or the cell's own column where
+    // that lies behind the end.
+    fn next_page(&self, cell: Cell, end: u16) -> u16
+        requires { end ≤ 256 }
         ensures within { (cell.col ≤ result) × (result ≤ 256) }
         ensures none { (c : Place) → InSheet c → band_of c ≡ band_of cell → cell.col ≤ c.col → c.col < result →
             map.get self.now.cells c ≡ None }
     {
-        self.cells.next_page(cell)
+        self.cells.next_page(cell, end)
     }
 
-    // A column, up to 256, from which on no cell of the cell's band of 256 rows has a state.
+    // A column, up to 256, from which on no cell of the cell's band of 64 rows has a state.
     pub(crate) fn band_end(&self, cell: Cell) -> u16
         ensures within { result ≤ 256 }
         ensures none { (c : Place) → InSheet c → band_of c ≡ band_of cell → result ≤ c.col →
@@ -128,15 +140,25 @@ impl Store {
         self.cells.held()
     }
 
-    /// Whether no cell of a span has a state, as far as one look at its band tells: it is false where some may have
-    /// one.
+    /// Whether no cell of a span has a state, as far as one look at each of its bands tells: it is false where some may
+    /// have one.
     pub fn is_unused(&self, span: Span) -> bool
         ensures { result ≡ true → (c : Place) → is_within span c ≡ true → map.get self.now.cells c ≡ None }
     {
         span.last.is_on_sheet();
-        let band = span.first.row / BAND;
-        let col = self.next_page(span.first);
-        band == span.last.row / BAND && col > u16::from(span.last.col)
+        let end = u16::from(span.last.col) + 1;
+        let mut row = span.first.row;
+        while row <= span.last.row {
+            let place = Cell {
+                row,
+                col: span.first.col,
+            };
+            if self.next_page(place, end) < end {
+                return false;
+            }
+            row = row / BAND_ROWS * BAND_ROWS + BAND_ROWS;
+        }
+        true
     }
 
     /// How many cells ever had a state, none of which is more than once among them. No clause tells it.
@@ -437,21 +459,20 @@ fn counted(state: &CellState) -> Option<Fixed>
 fn let_go(_value: Value) {}
 
 // The last row and the last column of two cells.
-fn further(last: Option<Cell>, cell: Cell) -> Option<Cell>
-    ensures { result ≡ further last cell }
+#[inline(always)]
+fn further(last: Cell, cell: Cell) -> Cell
+    ensures { further (Some last) cell ≡ Some result }
 {
-    match last {
-        None => Some(cell),
-        Some(other) => Some(Cell {
-            row: other.row.max(cell.row),
-            col: other.col.max(cell.col),
-        }),
+    Cell {
+        row: last.row.max(cell.row),
+        col: last.col.max(cell.col),
     }
 }
 
 // The same for a cell that has a state.
-fn further_held(last: Option<Cell>, held: &Held<CellState>) -> Option<Cell>
-    ensures { result ≡ last_among last (with_item (cell_in held.now) (item_in held.now) []) }
+#[inline(always)]
+fn further_held(last: Cell, held: &Held<CellState>) -> Cell
+    ensures { last_among (Some last) (with_item (cell_in held.now) (item_in held.now) []) ≡ Some result }
 {
     match held {
         Held::Filled(cell, _) => further(last, *cell),
@@ -463,11 +484,16 @@ fn further_held(last: Option<Cell>, held: &Held<CellState>) -> Option<Cell>
 fn last_of(held: &[Held<CellState>]) -> Option<Cell>
     ensures { result ≡ last_among None (filled held.now) }
 {
-    let mut last = None;
-    for one in held {
-        last = further_held(last, one);
+    let Some(first) = held_from(held, 0) else {
+        return None;
+    };
+    let mut last = first.0;
+    let mut at = first.2;
+    while at < held.len() {
+        last = further_held(last, &held[at]);
+        at += 1;
     }
-    last
+    Some(last)
 }
 
 // Puts an equal state of a held cell into a map.

@@ -25,6 +25,14 @@ NextHeld cells c d =
 abbrev pub NoneHeldBehind : Cells → Place → Type 0
 NoneHeldBehind cells c = (p : Place) (s : CellState) → InSheet p → get cells p ≡ Some s → is_lt (place_cmp c p) ≡ false
 
+-- a place lies neither behind a last row nor behind a last column
+abbrev pub IsUpTo : Place → Place → Type 0
+IsUpTo last p = (p.row ≤ last.row) × (p.col ≤ last.col)
+
+-- every cell with a state lies up to a last row and a last column
+abbrev pub EndsAt : Cells → Place → Type 0
+EndsAt cells last = (p : Place) (s : CellState) → get cells p ≡ Some s → IsUpTo last p
+
 -- from the column of an edge on, no cell of its band has a state, and the column is at most the sheet's end
 abbrev pub IsEdge : Cells → Edge → Type 0
 IsEdge cells e = (e.col ≤ 256) × ((c : Place) → InSheet c → band_of c ≡ e.band → e.col ≤ c.col → get cells c ≡ None)
