@@ -22,12 +22,13 @@ pub(crate) struct Computed {
 }
 
 // A format with a content; a formula has a value of its own. The text of a label stands here where it has up to 13
-// bytes, and else in the smallest block that has room for it.
+// bytes, and else in the smallest block that has room for it. The kinds that a sum asks for stand first, as
+// they are told soonest then.
 #[derive(Drop)]
 pub(crate) enum Kept {
-    Blank(Format),
     Number(Format, Fixed),
     Formula(Format, Box<Computed>),
+    Blank(Format),
     In13(Format, LabelPrefix, ShortText),
     In22(Format, LabelPrefix, Box<TextRoom<22>>),
     In55(Format, LabelPrefix, Box<TextRoom<55>>),
