@@ -23,7 +23,7 @@ pub use lengths::{
     BLANK_LENGTH, FORMULA_LENGTH, INTEGER_LENGTH, LABEL_LENGTH, NUMBER_LENGTH, STR_LENGTH,
 };
 pub use meaning::entry_of;
-pub use numbers::{BOF, EOF};
+pub use numbers::{BOF, EOF, FORMULA, INTEGER, LABEL, NUMBER};
 pub use order::order_byte;
 pub use pieces::{beginning, number_of, put_piece, put_place};
 pub use read_codes::ReadCodes;

@@ -313,6 +313,7 @@ fn behind_prefix(bytes: &[u8]) -> (LabelPrefix, &[u8])
 }
 
 // The state of a label, of bytes that are a text's.
+#[inline(always)]
 fn label_of(
     alloc: Global,
     body: &[u8],

@@ -1,6 +1,5 @@
 use Rattle.std.proofs.Common.{◌≡◌, ◌+◌, ℕ, ap, sym, subst, ◌∙◌, arith, inl, inr, length}
 use Rattle.std.specs.Prelude.{Err}
-use Rattle.wk1_records.specs.Meanings.{meaning_by}
 use Rattle.wk1_records.specs.Records.{IsFront}
 use Rattle.wk1_file.specs.inner.Takes.{as_progress, Ahead, IsMinded}
 use Rattle.wk1_file.proofs.Loads.{fits, goes_on, is_cut, is_end, is_fault}
@@ -26,7 +25,7 @@ returns-in-Err c =
           (is_fault c.args.bytes.now c.loop-kind.at c.loop-kind.number (as_progress c.loop-kind.loading) c.in-Some.kind
           body g.ahead front c.in-Err.fault
           (λ i. omega (arith, c.type_inv.bytes i)) (λ e. absurd (omega (arith, e, c.if-kind-eq-EOF.false)))
-          (ap (meaning_by c.loop-kind.number body) (sym c.kind_of.ensures) ∙ m))
+          m)
     ]
 
 pub loop-kind-preserved : goal.loop-kind-preserved
@@ -45,7 +44,7 @@ loop-kind-preserved c =
       ahead = subst (Ahead bytes (at + (4 + length body)) (n + 1)) (sym x.2)
           (goes_on bytes at n r c.in-Some.kind body g.ahead front x.0
           (λ e. absurd (omega (arith, e, c.if-kind-eq-EOF.false)))
-          (ap (meaning_by n body) (sym c.kind_of.ensures) ∙ x.1));
+          x.1);
     }
 
 pub returns : goal.returns
