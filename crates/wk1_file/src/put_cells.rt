@@ -48,6 +48,24 @@ fn before_label(cell: Cell, state: &CellState, prefix: LabelPrefix, size: u16) -
     [a, b, c, d, e, f, g, h, i, prefix.byte()]
 }
 
+// Adds a text and the 00 behind it. Texts of up to three bytes are put without a call that copies.
+#[inline(always)]
+fn put_ended(bytes: &[u8], into: &mut Vec<u8>) -> Result<(), Memory>
+    ensures { OnOk result (into.new.items ≡ into.old.items ++ (bytes.now ++ 0 ∷ [])) }
+{
+    let size = bytes.len();
+    if size == 1 {
+        put(&[bytes[0], 0], into)
+    } else if size == 2 {
+        put(&[bytes[0], bytes[1], 0], into)
+    } else if size == 3 {
+        put(&[bytes[0], bytes[1], bytes[2], 0], into)
+    } else {
+        put(bytes, into)?;
+        put(&[0], into)
+    }
+}
+
 /// Adds the record of a label.
 pub fn put_label(
     cell: Cell,
@@ -59,13 +77,13 @@ pub fn put_label(
     ensures { let body = head cell state.now ++ prefix_byte prefix ∷ (seen_text text.entry ++ 0 ∷ []) in
         OnOk result (into.new.items ≡ into.old.items ++ piece_bytes (made kind.Label body)) }
 {
-    let size = text.bytes().len() as u16;
+    let bytes = text.bytes();
+    let size = bytes.len() as u16;
     put(
         &before_label(cell, state, prefix, LABEL_LENGTH + size),
         into,
     )?;
-    put(text.bytes(), into)?;
-    put(&[0], into)
+    put_ended(bytes, into)
 }
 
 /// Adds the record of a text that is a formula's value.
@@ -78,13 +96,13 @@ pub fn put_text(
     ensures { OnOk result (into.new.items
         ≡ into.old.items ++ piece_bytes (made kind.Str (head cell state.now ++ (seen_text text.entry ++ 0 ∷ [])))) }
 {
-    let size = text.bytes().len() as u16;
+    let bytes = text.bytes();
+    let size = bytes.len() as u16;
     put(
         &beginning(RecordKind::Str, STR_LENGTH + size, cell, state),
         into,
     )?;
-    put(text.bytes(), into)?;
-    put(&[0], into)
+    put_ended(bytes, into)
 }
 
 // The bits of a value that is a text, which stands in a record of its own (as 1-2-3 saves it).

@@ -1,4 +1,4 @@
-use Rattle.std.proofs.Common.{◌≡◌, ◌+◌, ◌++◌, ◌∷◌, ◌∙◌, [], OnOk, ap, append_assoc, arith, length, subst}
+use Rattle.std.proofs.Common.{◌≡◌, ◌+◌, ◌++◌, ◌∷◌, ◌∙◌, [], OnOk, ap, arith, length, subst}
 use Rattle.std.proofs.lemmas.List.{length-append}
 use Rattle.lics_text.specs.Seen.{seen_text}
 use Rattle.wk1_records.specs.Bodies.{head}
@@ -12,13 +12,12 @@ returns c =
     let old = c.args.into.now.items in
     let place = head c.args.cell c.args.state.now in
     let text = seen_text c.args.text in
-    let size = length c.bytes.result.now in
+    let size = length c.bytes-bytes.result.now in
     let begun = c.put.new.into.items in
-    let same : size ≡ length text = ap length c.bytes.ensures.value in
-    let parts = ap (λ l. l ++ 0 ∷ []) (c.in_ok-put-2.ensures ∙ ap (λ l. begun ++ l) c.bytes-2.ensures.value)
-    ∙ append_assoc begun text (0 ∷ []) in
+    let same : size ≡ length text = ap length c.bytes-bytes.ensures.value in
+    let parts = ap (λ l. begun ++ (l ++ 0 ∷ [])) c.bytes-bytes.ensures.value in
     let rest = text ++ 0 ∷ [] in
     let long : 6 + size ≡ length (place ++ rest) = omega (arith, same, length-append text (0 ∷ [])) in
     let all = record_joined old begun place rest (number_of kind.Str) (6 + size)
     (c.in_ok-put.ensures ∙ ap (λ l. old ++ l) c.beginning.ensures) long in
-    subst (λ l. OnOk c.put-3.result (c.put-3.new.into.items ≡ l)) (parts ∙ all) c.put-3.ensures
+    subst (λ l. OnOk c.put_ended.result (c.put_ended.new.into.items ≡ l)) (parts ∙ all) c.put_ended.ensures

@@ -3,7 +3,7 @@ use Rattle.sheet_store.specs.Grid.{width_of}
 use Rattle.wk1_records.specs.Records.{pieces_bytes}
 use Rattle.wk1_file.specs.Saved.{columns, width_piece}
 use Rattle.wk1_file.specs.inner.Written.{Writes}
-use Rattle.wk1_file.proofs.put_settings.put_widths.Given as goal
+use Rattle.wk1_file.proofs.put_settings.put_by_column.Given as goal
 
 abbrev pub invariant-loop-col : goal.invariant-loop-col
 invariant-loop-col l =
