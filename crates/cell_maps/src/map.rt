@@ -6,12 +6,15 @@ ghost use Rattle.std.specs.FinMap as map;
 ghost use Rattle.grid_address.specs.Place.{same_place, InSheet, Place};
 ghost use Rattle.cell_maps.specs.Numbers.{band_of, number_at};
 
-use crate::table::BAND_ROWS;
+use crate::table::{BAND_ROWS, PLACES};
 use crate::{Held, PlaceTable};
 use grid_address::{COLUMNS, Cell};
 use std::alloc::{AllocError, Global};
 use std::marker::Model;
 use std::mem::replace;
+
+/// For how many pages more than full ones there is room where cells may stand anywhere.
+const SPARE_PAGES: usize = 256;
 
 /// A finite map from cells to items. Each cell that was ever put in keeps a number, and an item is found by its cell's
 /// number, so that only a cell that is put in for the first time takes memory.
@@ -96,12 +99,12 @@ impl<T> CellMap<T> {
         self.held.reserve(more)
     }
 
-    /// Makes room for so many cells more, as far as there is memory, and for their numbers wherever they stand. The map
-    /// stays as it was.
+    /// Makes room for so many cells more, as far as there is memory, and for their numbers where they stand in up to
+    /// 256 pages more than they fill. The map stays as it was.
     pub fn reserve_anywhere(&mut self, more: usize) -> Result<(), AllocError>
         ensures { self.new ≡ self.old }
     {
-        self.table.reserve(more)?;
+        self.table.reserve(more.min(more / PLACES + SPARE_PAGES))?;
         self.held.reserve(more)
     }
 

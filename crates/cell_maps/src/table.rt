@@ -21,7 +21,7 @@ const PAGES: usize = 64;
 const MOST_PAGES: usize = 8_192;
 
 /// How many places a page has.
-const PLACES: usize = 256;
+pub const PLACES: usize = 256;
 
 /// The heads of a band of pages without room.
 const NO_HEADS: [u16; PAGES] = [0; PAGES];

@@ -70,8 +70,8 @@ impl Store {
         }
     }
 
-    /// Makes room for the states of so many cells more, wherever they stand, as far as there is memory. The store stays
-    /// as it was.
+    /// Makes room for the states of so many cells more, also where they are scattered, as far as there is memory. The
+    /// store stays as it was.
     pub fn reserve(&mut self, cells: usize) -> Result<(), Memory>
         ensures { self.new ≡ self.old }
     {
