@@ -1,10 +1,11 @@
 // Maps from cells to items.
-ghost use Rattle.std.specs.Prelude.{◌≡◌, ◌++◌, ◌∷◌, [], ◌<◌, ◌≤◌, ◌-◌, ◌^◌, suc, ℕ, cond, length, Some, None, option_copied, IfSome, IfNone, OnOk, OnErr};
+ghost use Rattle.std.specs.Prelude.{◌≡◌, ◌<◌, ◌≤◌, ◌-◌, ◌^◌, suc, ℕ, cond, length, vec_capacity, vec_len, Some, None, option_copied, IfSome, IfNone, IfOk, OnOk, OnErr};
 ghost use Rattle.std.specs.Option.{option_copied_mut};
 ghost use Rattle.std.specs.Borrow.{sem};
 ghost use Rattle.std.specs.FinMap as map;
 ghost use Rattle.grid_address.specs.Place.{same_place, InSheet, Place};
 ghost use Rattle.cell_maps.specs.Numbers.{band_of, number_at};
+ghost use Rattle.cell_maps.specs.inner.Numbering.{IsGiven, IsUngiven};
 
 use crate::table::{BAND_ROWS, PLACES};
 use crate::{Held, PlaceTable};
@@ -54,26 +55,49 @@ pub(crate) fn index_of(table: &PlaceTable, cell: Cell) -> Option<usize>
     }
 }
 
-// Holds an item at a cell that has no number yet.
-#[inline(always)]
-fn add<T: Drop>(
+// Gives a cell that has none the number behind those of the others, and makes room for its item, by a call of its own:
+// for a table or a list that may have to grow.
+#[inline(never)]
+fn number_apart<T>(
     table: &mut PlaceTable,
     held: &mut Vec<Held<T>>,
     cell: Cell,
-    item: T,
 ) -> Result<(), AllocError>
-    requires { length held.old.items < 2 ^ 32 - 1 }
-    ensures held { OnOk result (held.new.items ≡ held.old.items ++ Held.Filled cell item ∷ []) }
+    requires few { length held.old.items < 2 ^ 32 - 1 }
+    ensures items { held.new.items ≡ held.old.items }
+    ensures room { OnOk result (vec_len held.new < vec_capacity held.new) }
     ensures numbers { OnOk result ((d : Place) → InSheet d → number_at table.new d
         ≡ cond (same_place cell d) (suc (length held.old.items)) (number_at table.old d)) }
-    ensures err_held { OnErr result (held.new.items ≡ held.old.items) }
-    ensures err_numbers { OnErr result ((d : Place) → number_at table.new d ≡ number_at table.old d) }
+    ensures err { OnErr result ((d : Place) → number_at table.new d ≡ number_at table.old d) }
 {
     table.make_room(cell)?;
-    let number = held.len() as u32 + 1;
-    held.push(Held::Filled(cell, item))?;
-    table.set(cell, number);
+    held.reserve(1)?;
+    table.set(cell, held.len() as u32 + 1);
     Ok(())
+}
+
+// Gives a cell the number behind those of the others, as far as it has none, and tells the one that it had. The list
+// has room for the item of a cell that had none. Where there is room, which is nearly always, it makes no call.
+#[inline(always)]
+fn number_for<T>(
+    table: &mut PlaceTable,
+    held: &mut Vec<Held<T>>,
+    cell: Cell,
+) -> Result<u32, AllocError>
+    requires { length held.old.items < 2 ^ 32 - 1 }
+    ensures items { held.new.items ≡ held.old.items }
+    ensures given { IfOk result (λ had. IsGiven table.old (length held.old.items) cell had table.new) }
+    ensures room { IfOk result (λ had. had ≡ 0 → vec_len held.new < vec_capacity held.new) }
+    ensures err { OnErr result (IsUngiven table.old cell table.new) }
+{
+    if let Some(had) = table.put_behind(cell, 0, held) {
+        return Ok(had);
+    }
+    let had = table.number_at(cell);
+    if had == 0 {
+        number_apart(table, held, cell)?;
+    }
+    Ok(had)
 }
 
 impl<T> CellMap<T> {
@@ -169,7 +193,6 @@ impl<T> CellMap<T> {
     }
 
     /// Gives a cell an item in place of the one that it has. Only a cell that was never put in can find no memory.
-    /// Where the map has room, which is nearly always, the cell's page is looked up once.
     #[inline(always)]
     pub fn insert(&mut self, cell: Cell, item: T) -> Result<(), AllocError>
     where
@@ -179,39 +202,13 @@ impl<T> CellMap<T> {
         ensures absent { OnErr result (map.get self.old cell ≡ None) }
     {
         cell.is_on_sheet();
-        match self.table.put_behind(cell, 0, &self.held) {
-            Some(0) => {
-                self.held.push_reserved(Held::Filled(cell, item));
-                Ok(())
-            }
-            Some(number) => {
-                self.held[number as usize - 1] = Held::Filled(cell, item);
-                Ok(())
-            }
-            None => self.insert_apart(cell, item),
+        let had = number_for(&mut self.table, &mut self.held, cell)?;
+        if had == 0 {
+            self.held.push_reserved(Held::Filled(cell, item));
+        } else {
+            self.held[had as usize - 1] = Held::Filled(cell, item);
         }
-    }
-
-    // Gives a cell an item as `insert` does, by a call of its own: for a map that may have to grow.
-    #[inline(never)]
-    fn insert_apart(&mut self, cell: Cell, item: T) -> Result<(), AllocError>
-    where
-        T: Drop,
-        ensures ok { OnOk result (self.new ≡ map.insert self.old cell item) }
-        ensures err { OnErr result (self.new ≡ self.old) }
-        ensures absent { OnErr result (map.get self.old cell ≡ None) }
-    {
-        cell.is_on_sheet();
-        match index_of(&self.table, cell) {
-            Some(at) => {
-                self.held[at] = Held::Filled(cell, item);
-                Ok(())
-            }
-            None => {
-                add(&mut self.table, &mut self.held, cell, item)?;
-                Ok(())
-            }
-        }
+        Ok(())
     }
 
     /// Takes a cell's item out. The cell keeps its number.

@@ -222,7 +222,7 @@ impl PlaceTable {
     }
 
     // Adds room for the number of a cell whose page has none.
-    #[inline(never)]
+    #[inline(always)]
     fn add_room(&mut self, cell: Cell) -> Result<(), AllocError>
         requires { head_of self.old cell ≡ 0 }
         ensures same { (d : Place) → number_at self.new d ≡ number_at self.old d }
@@ -238,6 +238,7 @@ impl PlaceTable {
     }
 
     /// Makes room for the number of a cell. No number changes.
+    #[inline(always)]
     pub fn make_room(&mut self, cell: Cell) -> Result<(), AllocError>
         ensures same { (d : Place) → number_at self.new d ≡ number_at self.old d }
         ensures room { OnOk result (HasRoom self.new cell) }

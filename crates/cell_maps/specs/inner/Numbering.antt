@@ -1,7 +1,7 @@
 -- How the numbers of cells are kept.
-use Rattle.std.specs.Prelude.{ℕ, zero, suc, ◌≡◌, ◌-◌, ◌*◌, ◌%◌, ◌<◌, ◌≤◌, ◌⊎◌, List, [], ◌∷◌, length, map, get_or, Some, slice_get}
+use Rattle.std.specs.Prelude.{ℕ, zero, suc, cond, ◌≡◌, ◌-◌, ◌*◌, ◌%◌, ◌<◌, ◌≤◌, ◌⊎◌, List, [], ◌∷◌, length, map, get_or, Some, slice_get}
 use Rattle.cell_maps.specs.Numbers.{Numbers, number_at}
-use Rattle.grid_address.specs.Place.{InSheet, Place}
+use Rattle.grid_address.specs.Place.{same_place, InSheet, Place}
 
 -- the numbers above one of them, counted from there; those up to it are none
 abbrev pub above : ℕ → Numbers → Numbers
@@ -23,6 +23,18 @@ pub record AreParted (t : Numbers) : Type 0 where
   pub room : (i : ℕ) → get_or t.heads i 0 * 256 ≤ length t.numbers
   pub full : length t.numbers ≡ used t.heads * 256
   pub whole : AreWholeBands t.heads
+
+-- a cell that has no number gets the one behind so many, and one that has a number keeps it
+pub record IsGiven (old : Numbers) (count : ℕ) (cell : Place) (had : ℕ) (new : Numbers) : Type 0 where
+  pub own : had ≡ number_at old cell
+  pub same : 0 < had → new ≡ old
+  pub set : had ≡ 0 → (d : Place) → InSheet d →
+      number_at new d ≡ cond (same_place cell d) (suc count) (number_at old d)
+
+-- a cell that has no number gets none
+pub record IsUngiven (old : Numbers) (cell : Place) (new : Numbers) : Type 0 where
+  pub absent : number_at old cell ≡ 0
+  pub same : (d : Place) → number_at new d ≡ number_at old d
 
 -- the cells that have numbers are these, the first with 1
 pub record AreNumbered (bands : Numbers) (cells : List Place) : Type 0 where
