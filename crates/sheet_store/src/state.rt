@@ -138,7 +138,9 @@ impl CellState {
         }) }
     {
         let size = bytes.len();
-        let kept = if size <= 13 {
+        let kept = if size == 1 {
+            Kept::In13(format, prefix, ShortText::of(alloc, &[bytes[0]]))
+        } else if size <= 13 {
             Kept::In13(format, prefix, ShortText::of(alloc, bytes))
         } else if size <= 22 {
             Kept::In22(format, prefix, TextRoom::small_block(alloc, bytes)?)
