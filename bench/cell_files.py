@@ -1,4 +1,5 @@
-"""Worksheet files of cells of one kind, or of each kind in every fourth column, from A1 on and row by row."""
+"""Worksheet files of cells of one kind, or of each kind in every fourth column, from A1 on and row by row, or of cells
+of one kind in other places and orders."""
 import struct
 
 FIRST, LAST = bytes.fromhex("000002000604"), bytes.fromhex("01000000")  # the records of the beginning and the end
@@ -51,6 +52,13 @@ KINDS = {"integers": [integer], "numbers": [decimal], "labels": [label], "formul
          "mixed": [integer, decimal, label, formula]}
 # labels of one byte, of so few that they have a block of their own, and of more
 LENGTHS = {f"labels of {length}": [labels_of(length)] for length in (1, 14, 40)}
+# the columns and rows of other shapes, in the order of their records
+SHAPES = {"one row of 256": [(column, 0) for column in range(256)],
+          "20 rows of 8": [(column, row) for row in range(20) for column in range(8)],
+          "8 columns of 1,000 by columns": [(column, row) for column in range(8) for row in range(1000)],
+          "a column from the bottom up": [(0, row) for row in reversed(range(8192))],
+          "256 cells, each 32 rows lower": [(column, 32 * column) for column in range(256)],
+          "256 cells, far apart": [(4 * column, 64 * row) for row in range(4) for column in range(64)]}
 
 
 def make(path, kind, rows, columns):
@@ -62,4 +70,12 @@ def make(path, kind, rows, columns):
         for row in range(rows):
             file.write(b"".join(cell((column, row), row * 256 + column) for column, cell in cells))
         file.write(LAST)
+        return file.tell()
+
+
+def make_at(path, kind, places):
+    """Writes a file of cells of one kind in these places, and tells its bytes."""
+    (cell,) = (KINDS | LENGTHS)[kind]
+    with open(path, "wb") as file:
+        file.write(FIRST + b"".join(cell(place, number) for number, place in enumerate(places)) + LAST)
         return file.tell()
